@@ -1,17 +1,26 @@
 //! Texts, lists, places and the outside: what every crate stands on.
 //!
 //! Read `fault` and `text` first, then `list` and `boxed`, of which syntax trees are made; then `span` and
-//! `name`, which speak of a script's bytes.
+//! `name`, which speak of a script's bytes; then `stream`, the traits of the outside, with what implements them in
+//! `memory`, `sure` and `standard`.
 #![tactic(auto)]
 
 mod boxed;
 mod fault;
 mod list;
+mod name;
+mod span;
+mod stream;
+mod sure;
 mod text;
 
 pub use boxed::Boxed;
 pub use fault::{Failed, Memory};
 pub use list::List;
+pub use name::{is_name, is_reserved};
+pub use span::{Place, Span, place_of};
+pub use stream::{Sink, Source, write_all};
+pub use sure::{SureSink, SureSource};
 pub use text::Text;
 
 #[cfg(test)]
