@@ -7,18 +7,27 @@
 
 mod boxed;
 mod fault;
+mod known_names;
 mod list;
+mod memory;
 mod name;
 mod span;
+mod standard;
 mod stream;
 mod sure;
 mod text;
 
 pub use boxed::Boxed;
 pub use fault::{Failed, Memory};
+pub use known_names::{
+    is_bash_word, is_builtin, is_known_command, is_refused_builtin, is_restricted, is_special_name,
+    is_standard_word,
+};
 pub use list::List;
+pub use memory::{MemorySink, MemorySource};
 pub use name::{is_name, is_reserved};
 pub use span::{Place, Span, place_of};
+pub use standard::{StandardError, StandardInput, StandardOutput};
 pub use stream::{Sink, Source, write_all};
 pub use sure::{SureSink, SureSource};
 pub use text::Text;
