@@ -1,0 +1,2 @@
+//! What a Bash script does: definitions, and the law of bounds.
+#![tactic(auto)]

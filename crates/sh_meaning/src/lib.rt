@@ -1,0 +1,2 @@
+//! What sh text does: definitions, and the law of bounds.
+#![tactic(auto)]

@@ -1,0 +1,9 @@
+//! The world that a run sees, and what both languages' meanings are made of.
+//!
+//! `world` has the types. `specs/Runs` has the combinators of both meanings, `specs/World` what a good world is,
+//! `specs/Outside` what is done through descriptors, `specs/Calls` the table of external commands.
+#![tactic(auto)]
+
+mod world;
+
+pub use world::{Answer, Bounds, Call, Latitude, Row, RowInput, RowKey, World};
