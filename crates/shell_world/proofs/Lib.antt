@@ -1,0 +1,4 @@
+pub mod Between
+pub mod Monotone
+pub mod Records
+pub mod Simulate
