@@ -75,3 +75,19 @@ sim_choose P n true false s t u v a b e h h' = cc
 sim_choose P n false true s t u v a b e h h' = cc
 sim_choose P n false false s t u v a b e h h' = h'
 
+
+-- `after` twice, as one
+pub after_assoc : {X Y Z S : Type 0} (o : Res X S) (k : X → Do Y S) (h : Y → Do Z S) → after (after o k) h ≡ after o (λ x n s. after (k x n s) h)
+after_assoc (Ends g s n) k h = refl
+after_assoc (GoesOn w) k h = refl
+after_assoc (Unspecified w) k h = refl
+
+-- another run that does the same at all bounds
+pub same_run : {X A B : Type 0} (P : Post X A B) (n : ℕ) (o : Res X A) (run run' : Run X B) → ((d f j : ℕ) → run d f j ≡ run' d f j) → Matches P n o run → Matches P n o run'
+same_run {X} {A} {B} P n o run run' e m =
+    let is : run ≡ run' = λ i d f j. e d f j i in
+    subst (λ (r : Run X B). Matches P n o r) is m
+
+-- where the one run ends at once in the state that it began in, its end is told
+pub ends_there : {X A B : Type 0} (P : Post X A B) (n : ℕ) (g : X) (a : St A) (run : Run X B) → Matches P n (Ends g a n) run → Matches (λ x a' b. P x a' b × (a' ≡ a) × (x ≡ g)) n (Ends g a n) run
+ends_there P n g a run m = record { end = m.end; holds = (m.holds, refl, refl); fewer = m.fewer; leads = m.leads }

@@ -1,0 +1,3 @@
+mod Lowered
+mod Meaning
+mod Variables

@@ -1,0 +1,4 @@
+//! A compiler from Bash to POSIX sh.
+#![tactic(auto)]
+
+fn main() {}
