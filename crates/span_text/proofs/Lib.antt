@@ -1,2 +1,4 @@
+pub mod Bytes
 mod Newlines
+pub mod Runs
 pub mod Writes
