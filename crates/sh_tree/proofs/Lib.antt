@@ -1,1 +1,3 @@
 mod Back
+pub mod Texts
+pub mod Views

@@ -1,6 +1,7 @@
 //! The syntax tree of sh text, and its printer (POSIX 2.10).
 #![tactic(auto)]
 
+mod print;
 mod tree;
 
 pub use tree::{

@@ -1,6 +1,9 @@
 -- One text written after another.
-use Rattle.std.proofs.Common.{◌≡◌, ℕ, ◌+◌, ◌<◌, ◌≤◌, ◌-◌, ◌^◌, min, List, [], ◌∷◌, ◌++◌, length, take, drop, Option, Some, None, Result, Ok, Err, refl, sym, ap, subst, ◌∙◌, append_assoc, arith}
+use Rattle.std.proofs.Common.{◌≡◌, ℕ, ◌+◌, ◌<◌, ◌≤◌, ◌-◌, ◌^◌, min, List, [], ◌∷◌, ◌++◌, length, get_or, take, drop, Option, Some, None, Result, Ok, Err, refl, sym, ap, subst, ◌∙◌, append_assoc, arith}
 use Rattle.std.proofs.lemmas.List.{append-nil, length-append, take-append-drop}
+use Rattle.std.specs.List.{flat_map}
+use Rattle.std.proofs.lemmas.List.{drop_more}
+use Rattle.std.proofs.lemmas.List.Concat.{flat_map-append, flat_map-cons}
 use Rattle.span_text.specs.Streams.{Grows, Falls, Keeps, Rose, Wrote}
 
 pub Grows-none : (a : Option (List ℕ)) → Grows a a []
@@ -71,3 +74,22 @@ SoFar-done a b i j all rest s e =
 pub SoFar-fails : {E : Type 0} (a b c : Option (List ℕ)) (i j k : ℕ) (all rest : List ℕ) (r : Result (Unit {0}) E) (e : E) → r ≡ Err e → SoFar a b i j all rest → 0 < length rest → Keeps b c → j ≤ k → Rose j k → Wrote a c i k r all
 SoFar-fails a b c i j k all rest r e is s lt kept le rose =
     rw (is, s.whole) (Keeps-falls a b c s.front rest s.held kept lt, omega (arith, s.never_falls), Rose-from i j k s.never_falls rose)
+
+-- ---- a loop that writes a text for each item
+
+-- what it has written so far
+pub record Printed (before now : Option (List ℕ)) (faults count : ℕ) (text : List ℕ) : Type 0 where
+  pub held : Grows before now text
+  pub never_falls : faults ≤ count
+
+flat_at : {X : Type 0} (f : X → List ℕ) (xs : List X) (i : ℕ) (x : X) → i < length xs → x ≡ get_or xs i x → flat_map f xs ≡ flat_map f (take i xs) ++ (f x ++ flat_map f (drop (i + 1) xs))
+flat_at {X} f xs i x lt is =
+    let a : drop i xs ≡ x ∷ drop (i + 1) xs = drop_more xs i x lt ∙ ap (λ (y : X). y ∷ drop (i + 1) xs) (sym is) in
+    let b : xs ≡ take i xs ++ (x ∷ drop (i + 1) xs) = sym (take-append-drop i xs) ∙ ap (λ (l : List X). take i xs ++ l) a in
+    ap (λ (l : List X). flat_map f l) b ∙ flat_map-append f (take i xs) (x ∷ drop (i + 1) xs) ∙ ap (λ (l : List ℕ). flat_map f (take i xs) ++ l) (flat_map-cons f x (drop (i + 1) xs))
+
+-- the exit where an item was not written
+pub Printed-fails : {X E : Type 0} (f : X → List ℕ) (xs : List X) (n : ℕ) (x : X) (a b c : Option (List ℕ)) (i j k : ℕ) (r : Result (Unit {0}) E) (e : E) → n < length xs → x ≡ get_or xs n x → Printed a b i j (flat_map f (take n xs)) → r ≡ Err e → Falls b c (f x) × (j ≤ k) × Rose j k → Wrote a c i k r (flat_map f xs)
+Printed-fails {X} {E} f xs n x a b c i j k r e lt is so_far fails w =
+    rw (flat_at f xs n x lt is, fails)
+    (Falls-then a b c (flat_map f (take n xs)) (f x ++ flat_map f (drop (n + 1) xs)) so_far.held (Falls-early b c (f x) (flat_map f (drop (n + 1) xs)) w.0), omega (arith, so_far.never_falls, w.1), Rose-from i j k so_far.never_falls w.2)
