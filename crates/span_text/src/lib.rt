@@ -11,6 +11,7 @@ mod known_names;
 mod list;
 mod memory;
 mod name;
+mod scan;
 mod span;
 mod standard;
 mod stream;
@@ -26,6 +27,7 @@ pub use known_names::{
 pub use list::List;
 pub use memory::{MemorySink, MemorySource};
 pub use name::{is_name, is_reserved};
+pub use scan::{Class, all_in, is_in, is_started, is_word_end, run, run_len};
 pub use span::{Place, Span, place_of};
 pub use standard::{StandardError, StandardInput, StandardOutput};
 pub use stream::{Sink, Source, write_all};

@@ -7,14 +7,14 @@ ghost use Rattle.span_text.specs.Names as names;
 const RESERVED: &[u8] = b"__bs_";
 
 #[tactic(auto, unfolding(crate::specs::Names::begins_name))]
-fn begins_name(b: u8) -> bool
+pub(crate) fn begins_name(b: u8) -> bool
     ensures { result ≡ names.begins_name b }
 {
     b == b'_' || b.is_ascii_alphabetic()
 }
 
 #[tactic(auto, unfolding(crate::specs::Names::continues_name))]
-fn continues_name(b: u8) -> bool
+pub(crate) fn continues_name(b: u8) -> bool
     ensures { result ≡ names.continues_name b }
 {
     b == b'_' || b.is_ascii_alphabetic() || b.is_ascii_digit()
