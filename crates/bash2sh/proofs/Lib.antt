@@ -1,3 +1,5 @@
 mod Lowered
 mod Meaning
+mod Parts
+mod Tools
 mod Variables

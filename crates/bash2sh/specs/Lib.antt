@@ -1,3 +1,5 @@
 pub mod Form
 pub mod Lower
+pub mod Model
 pub mod SameMeaning
+pub mod Spelling

@@ -1,4 +1,6 @@
 //! A compiler from Bash to POSIX sh.
 #![tactic(auto)]
 
+mod fault;
+
 fn main() {}
