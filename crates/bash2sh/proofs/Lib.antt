@@ -1,3 +1,4 @@
+mod Commands
 mod Lowered
 mod Meaning
 mod Parts
