@@ -1,4 +1,5 @@
 mod Commands
+mod Lines
 mod Lowered
 mod Meaning
 mod Parts
