@@ -9,7 +9,7 @@ use Rattle.span_text.proofs.Bytes.{apart, first_is_name, plain_no_blank, marks}
 use Rattle.bash_tree.specs.Shape.{Part, plain, exact, double, param, Parts, no_part, part}
 use Rattle.bash_tree.specs.View.{parts_of}
 use Rattle.bash2sh.specs.Spelling.{QuotedPartAt, QuotedPartsAt, PartAt, PartsAt, WordAt}
-use Rattle.bash2sh.specs.Model.{◌>>=◌, run_at, param_at, quoted_run_at, quoted_part_at, is_quote, quoted_parts_at, closed_by, exact_at, double_at, plain_at, part_at, parts_at, word_at}
+use Rattle.bash2sh.specs.Model.{◌>>=◌, run_at, param_at, quoted_run_at, quoted_part_at, is_quote, quoted_parts_at, behind, closed_by, exact_at, double_at, plain_at, part_at, parts_at, word_at}
 use Rattle.bash2sh.proofs.Tools.{chosen, some_is, bind_some}
 
 -- the parts as a list again
@@ -60,14 +60,19 @@ quoted_parts_sound (suc n) bytes x e =
           subst (λ (y : List Part × List ℕ). QuotedPartsAt (parts_of y.0) bytes y.1) (some_is (a.0.0 ∷ b.0.0, b.0.1) x b.2) (a.0.1, quoted_part_sound bytes a.0 a.1, quoted_parts_sound n a.0.1 b.0 b.1)
     ]
 
-closed_is : (quote : ℕ) (p : Part) (after : List ℕ) (x : Part × List ℕ) → closed_by quote p after ≡ Some x → (p ≡ x.0) × (after ≡ quote ∷ x.1)
-closed_is quote p [] x e = absurd cc
-closed_is quote p (b ∷ rest) x e =
-    elim (chosen (eqb b quote) (Some (p, rest)) None (Some x) e) [
-      | inl h ↦ let is : b ≡ quote = eqb-true _ _ h.0 in let same = some_is (p, rest) x h.1 in
-          (ap (λ (y : Part × List ℕ). y.0) same, ap (λ (k : ℕ). k ∷ rest) is ∙ ap (λ (y : Part × List ℕ). quote ∷ y.1) same)
+behind_is : (quote : ℕ) (bytes rest : List ℕ) → behind quote bytes ≡ Some rest → bytes ≡ quote ∷ rest
+behind_is quote [] rest e = absurd cc
+behind_is quote (b ∷ bs) rest e =
+    elim (chosen (eqb b quote) (Some bs) None (Some rest) e) [
+      | inl h ↦ let is : b ≡ quote = eqb-true _ _ h.0 in ap (λ (k : ℕ). k ∷ bs) is ∙ ap (λ (l : List ℕ). quote ∷ l) (some_is bs rest h.1)
       | inr h ↦ absurd cc
     ]
+
+closed_is : (quote : ℕ) (p : Part) (after : List ℕ) (x : Part × List ℕ) → closed_by quote p after ≡ Some x → (p ≡ x.0) × (after ≡ quote ∷ x.1)
+closed_is quote p after x e =
+    let a = bind_some (behind quote after) (λ rest. Some (p, rest)) x e in
+    let same = some_is (p, a.0) x a.2 in
+    (ap (λ (y : Part × List ℕ). y.0) same, behind_is quote after a.0 a.1 ∙ ap (λ (y : Part × List ℕ). quote ∷ y.1) same)
 
 exact_sound : (inner : List ℕ) (x : Part × List ℕ) → exact_at inner ≡ Some x → PartAt x.0 (39 ∷ inner) x.1
 unfolding exact_at
@@ -125,6 +130,9 @@ quoted_part_shorter (plain text) bytes rest h = Run-shorter is_quoted_byte text 
 quoted_part_shorter (param name) bytes rest h = let k = ap length h.1 in let r = Run-length continues_name name h.0 rest h.3 in omega arith
 quoted_part_shorter (exact text) bytes rest h = absurd h
 quoted_part_shorter (double ps) bytes rest h = absurd h
+
+pub quoted_shorter : (x : Part) (rest after : List ℕ) → quoted_part_at rest ≡ Some (x, after) → length after < length rest
+quoted_shorter x rest after h = quoted_part_shorter x rest after (quoted_part_sound rest (x, after) h)
 
 quoted_parts_shorter : (ps : Parts) (bytes rest : List ℕ) → QuotedPartsAt ps bytes rest → length rest ≤ length bytes
 quoted_parts_shorter no_part bytes rest h = let k = ap length h in omega arith

@@ -3,3 +3,4 @@ pub mod Lower
 pub mod Model
 pub mod SameMeaning
 pub mod Spelling
+pub mod Views

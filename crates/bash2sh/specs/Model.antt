@@ -48,9 +48,13 @@ unfoldable pub quoted_parts_at : ℕ → List ℕ → Option (List Part × List 
 quoted_parts_at zero bytes = None
 quoted_parts_at (suc n) bytes = if starts is_quote bytes then Some ([], bytes) else (quoted_part_at bytes >>= λ p. quoted_parts_at n p.1 >>= λ ps. Some (p.0 ∷ ps.0, ps.1))
 
+-- what stands behind a quote
+abbrev pub behind : ℕ → List ℕ → Option (List ℕ)
+behind quote [] = None
+behind quote (b ∷ rest) = if b == quote then Some rest else None
+
 abbrev pub closed_by : ℕ → Part → List ℕ → Option (Part × List ℕ)
-closed_by quote p [] = None
-closed_by quote p (b ∷ rest) = if b == quote then Some (p, rest) else None
+closed_by quote p bytes = behind quote bytes >>= λ rest. Some (p, rest)
 
 unfoldable pub exact_at : List ℕ → Option (Part × List ℕ)
 exact_at inner = closed_by 39 (exact (run_at is_exact_byte inner).0) (run_at is_exact_byte inner).1
