@@ -1,9 +1,9 @@
-mod Commands
-mod Lines
+mod CommandLaws
+mod LineLaws
 pub mod Loops
 mod Lowered
 mod Meaning
-mod Parts
 mod Tools
 mod Variables
 pub mod Views
+mod WordLaws

@@ -8,8 +8,8 @@ use Rattle.bash2sh.specs.declared.fault.Stop.{Stop}
 use Rattle.bash2sh.specs.declared.fault.Stop.TheVariants as stop
 use Rattle.bash2sh.specs.Model.{◌>>=◌, Fails, run_at, quoted_part_at, is_quote, quoted_parts_at, part_at, parts_at, word_at, words_at}
 use Rattle.bash2sh.proofs.Tools.{with_front, regroup}
-use Rattle.bash2sh.proofs.Parts.{quoted_shorter, part_sound, parts_sound, part_shorter, word_shorter}
-use Rattle.bash2sh.proofs.Commands.{goes_on}
+use Rattle.bash2sh.proofs.WordLaws.{quoted_shorter, part_sound, parts_sound, part_shorter, word_shorter}
+use Rattle.bash2sh.proofs.CommandLaws.{goes_on}
 
 -- items up to a stop, at most so many
 abbrev pub Many : {A : Type 0} → (List ℕ → Option (A × List ℕ)) → (List ℕ → Bool) → (ℕ → List ℕ → Option (List A × List ℕ)) → Type 0

@@ -1,5 +1,5 @@
 -- A node that was made, seen as plain data.
-use Rattle.std.proofs.Common.{◌≡◌, ℕ, List, [], ◌∷◌, ◌++◌, refl, ◌∙◌, ap}
+use Rattle.std.proofs.Common.{◌≡◌, ℕ, List, [], ◌∷◌, ◌++◌, false, eqb, length, Some, refl, ◌∙◌, ap}
 use Rattle.std.specs.Prelude.{map}
 use Rattle.bash_tree.specs.declared.tree.Part.{Part}
 use Rattle.bash_tree.specs.declared.tree.PartKind.{PartKind}
@@ -7,7 +7,10 @@ use Rattle.bash_tree.specs.declared.tree.PartKind.TheVariants.{Plain, Exact, Dou
 use Rattle.bash_tree.specs.declared.tree.Param.{Param as Parameter}
 use Rattle.bash_tree.specs.declared.tree.ParamOp.{ParamOp}
 use Rattle.bash_tree.specs.Shape as shape
-use Rattle.bash_tree.specs.View.{view_part, view_kind, parts_of, name_of_param}
+use Rattle.bash_tree.specs.declared.tree.Word.{Word}
+use Rattle.bash_tree.specs.View.{view_part, view_kind, parts_of, name_of_param, view_word, words_of}
+use Rattle.bash2sh.specs.Model.{words_from, named}
+use Rattle.bash2sh.specs.Views.{parts_seen, words_seen}
 use Rattle.bash_tree.proofs.Views.{part_is, plain_is, exact_is, double_is, param_is}
 
 pub plain_seen : (p : Part) (t : List ℕ) → p.kind ≡ Plain t → view_part p ≡ shape.plain t
@@ -25,3 +28,12 @@ param_seen p q o e = part_is p ∙ ap view_kind e ∙ param_is q o
 pub map_more : {X Y : Type 0} (f : X → Y) (xs : List X) (x : X) → map f (xs ++ x ∷ []) ≡ map f xs ++ f x ∷ []
 map_more f [] x = refl
 map_more {X} {Y} f (y ∷ ys) x = ap (λ (l : List Y). f y ∷ l) (map_more f ys x)
+
+words_are : (ws : List Word) → words_from (words_seen ws) ≡ words_of ws
+words_are [] = refl
+words_are (w ∷ ws) = ap (λ (x : shape.Words). shape.word (view_word w) x) (words_are ws)
+
+-- the command of some words
+pub words_named : (ws : List Word) → eqb (length ws) 0 ≡ false → named (words_seen ws) ≡ Some (shape.simple shape.no_assign (words_of ws))
+words_named [] e = absurd cc
+words_named (w ∷ ws) e = ap (λ (x : shape.Words). Some (shape.simple shape.no_assign x)) (words_are (w ∷ ws))

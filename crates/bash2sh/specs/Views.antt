@@ -1,5 +1,6 @@
 -- The nodes that are read, as the model has them.
-use Rattle.std.specs.Prelude.{List, map}
+use Rattle.std.specs.Prelude.{ℕ, Bool, List, map}
+use Rattle.std.proofs.Common.{Bor}
 use Rattle.bash_tree.specs.declared.tree.Part.{Part}
 use Rattle.bash_tree.specs.declared.tree.Word.{Word}
 use Rattle.bash_tree.specs.Shape as shape
@@ -10,3 +11,7 @@ parts_seen ps = map view_part ps
 
 abbrev pub words_seen : List Word → List (List shape.Part)
 words_seen ws = map (λ w. parts_seen w.parts) ws
+
+-- the `=` or `+=` that was found
+abbrev pub sign_seen : Bool × Bor (List ℕ) → Bool × List ℕ
+sign_seen s = (s.0, s.1.now)

@@ -1,6 +1,7 @@
 //! A compiler from Bash to POSIX sh.
 #![tactic(auto)]
 
+mod commands;
 mod fault;
 mod words;
 

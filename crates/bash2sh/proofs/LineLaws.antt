@@ -11,7 +11,7 @@ use Rattle.bash2sh.specs.Form.{command_form, script_form}
 use Rattle.bash2sh.specs.Spelling.{PartAt, PartsAt, WordAt, CommandAt, IsIdle, IsCommandLine, LinesAt, Reads, IsBadLine, total, IsFirstBad}
 use Rattle.bash2sh.specs.Model.{◌>>=◌, ◌>>◌, run_at, command_at, of_form, front_at, line_at, put, by_line, lines_at, script_from}
 use Rattle.bash2sh.proofs.Tools.{chosen, some_is, bind_some, bind_ok, ok_is, each_of, test_of}
-use Rattle.bash2sh.proofs.Commands.{command_sound, command_complete}
+use Rattle.bash2sh.proofs.CommandLaws.{command_sound, command_complete}
 
 -- ---- no command begins with `#`, and none is empty
 

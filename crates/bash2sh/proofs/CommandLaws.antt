@@ -13,7 +13,7 @@ use Rattle.bash_tree.specs.View.{parts_of}
 use Rattle.bash2sh.specs.Spelling.{PartAt, PartsAt, WordAt, WordsAt, ValueAt, sign, CommandAt}
 use Rattle.bash2sh.specs.Model.{◌>>=◌, run_at, part_at, parts_at, word_at, words_at, words_from, value_at, plus_at, sign_at, named, words_command, assign_command, by_sign, command_at}
 use Rattle.bash2sh.proofs.Tools.{chosen, some_is, bind_some, each_of, test_of}
-use Rattle.bash2sh.proofs.Parts.{list_of, parts_of_list, parts_sound, parts_complete, word_shorter, part_goes_on}
+use Rattle.bash2sh.proofs.WordLaws.{list_of, parts_of_list, parts_sound, parts_complete, word_shorter, part_goes_on}
 
 -- ---- ends of lines
 
