@@ -1,4 +1,5 @@
 mod CommandLaws
+pub mod FormLaws
 mod LineLaws
 pub mod Loops
 mod Lowered

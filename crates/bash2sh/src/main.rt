@@ -3,6 +3,7 @@
 
 mod commands;
 mod fault;
+mod form;
 mod words;
 
 fn main() {}

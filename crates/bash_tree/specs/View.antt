@@ -60,6 +60,12 @@ abbrev pub assigns_of : List Assign → shape.Assigns
 assigns_of [] = shape.no_assign
 assigns_of (a ∷ as') = shape.assign a.name.text a.append (view_value a.value) (assigns_of as')
 
+abbrev pub assigns_in : CommandKind → List Assign
+assigns_in (Simple assigns words) = assigns
+
+abbrev pub words_in : CommandKind → List Word
+words_in (Simple assigns words) = words
+
 abbrev pub command_of : CommandKind → shape.Command
 command_of (Simple assigns words) = shape.simple (assigns_of assigns) (words_of words)
 

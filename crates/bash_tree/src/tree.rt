@@ -57,6 +57,27 @@ pub enum CommandKind {
     },
 }
 
+impl CommandKind {
+    ghost use Rattle.std.specs.Prelude.{◌≡◌};
+    ghost use Rattle.bash_tree.specs.View.{assigns_in, words_in};
+
+    /// The assignments of a simple command, in their order.
+    pub fn assigns(&self) -> &[Assign]
+        ensures { result.now ≡ assigns_in self.now }
+    {
+        let CommandKind::Simple { assigns, words: _ } = self;
+        assigns.as_slice()
+    }
+
+    /// The words of a simple command, in their order.
+    pub fn words(&self) -> &[Word]
+        ensures { result.now ≡ words_in self.now }
+    {
+        let CommandKind::Simple { assigns: _, words } = self;
+        words.as_slice()
+    }
+}
+
 /// A redirection. No form of it is read yet.
 #[derive(Debug, PartialEq, Drop)]
 pub enum Redirect {}
