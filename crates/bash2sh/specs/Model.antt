@@ -7,8 +7,6 @@ use Rattle.bash_tree.specs.Shape.{Part, plain, exact, double, param, Parts, no_p
 use Rattle.bash_tree.specs.View.{parts_of}
 use Rattle.bash2sh.specs.declared.fault.Stop.{Stop}
 use Rattle.bash2sh.specs.declared.fault.Stop.TheVariants as stop
-use Rattle.bash2sh.specs.declared.fault.ReadFault.{ReadFault}
-use Rattle.bash2sh.specs.declared.fault.ReadFault.TheVariants as fault
 use Rattle.bash2sh.specs.Form.{command_form}
 
 infixl 10 ◌>>=◌
@@ -152,8 +150,3 @@ lines_at at (l ∷ ls) = by_line at l (line_at l) (lines_at (at + length l + 1) 
 abbrev pub script_from : List Command → Script
 script_from [] = no_item
 script_from (c ∷ cs) = item (alone c) (script_from cs)
-
-abbrev pub GivesScript : {X : Type 0} → (X → List Command) → Result X ReadFault → Result (List Command) ℕ → Type 0
-GivesScript view (Ok x) read = read ≡ Ok (view x)
-GivesScript view (Err fault.Memory) read = Unit {0}
-GivesScript view (Err (fault.NotYet place)) read = read ≡ Err place

@@ -1,8 +1,9 @@
 //! Whether a command is of a form that is taken.
 
-ghost use Rattle.std.specs.Prelude.{◌≡◌, ◌++◌, ◌&&◌, [], map, IfOk, OnOk};
+ghost use Rattle.std.specs.Prelude.{◌≡◌, ◌++◌, ◌&&◌, [], map, length, ◌<◌, IfOk, OnOk};
 ghost use Rattle.std.specs.List.{list_all, flat_map};
-ghost use Rattle.bash_tree.specs.View.{view_part, parts_of, view_word, words_of, value_of, view_value, command_of};
+ghost use Rattle.bash_tree.specs.View.{view_part, name_of_param, parts_of, view_word, words_of, value_of, view_value, assigns_of, command_of};
+ghost use Rattle.bash_tree.specs.Shape.{simple, no_assign, no_word};
 ghost use Rattle.bash2sh.specs.Form as form;
 ghost use Rattle.bash2sh.specs.Views.{parts_seen};
 
@@ -16,16 +17,19 @@ fn is_free_name(name: &[u8]) -> bool
     !(is_special_name(name) || is_reserved(name))
 }
 
-#[tactic(auto, using(crate::proofs::Views::plain_seen, crate::proofs::Views::exact_seen, crate::proofs::Views::double_seen, crate::proofs::Views::param_seen))]
+fn is_free_param(param: &Param) -> bool
+    ensures { result ≡ form.is_free_name (name_of_param param.now) }
+{
+    let Param::Name(name) = param;
+    is_free_name(name.text.bytes())
+}
+
 fn quoted_form(part: &Part) -> bool
     ensures { result ≡ form.quoted_form (view_part part.now) }
 {
     match &part.kind {
         PartKind::Plain(_) => true,
-        PartKind::Param {
-            param: Param::Name(name),
-            op: _,
-        } => is_free_name(name.text.bytes()),
+        PartKind::Param { param, op: _ } => is_free_param(param),
         PartKind::Exact(_) => false,
         PartKind::Double(_) => false,
     }
@@ -37,7 +41,6 @@ fn quoted_forms(parts: &[Part]) -> bool
     parts.iter().all(|part| quoted_form(part))
 }
 
-#[tactic(auto, using(crate::proofs::Views::plain_seen, crate::proofs::Views::exact_seen, crate::proofs::Views::double_seen, crate::proofs::Views::param_seen, crate::proofs::FormLaws::forms_are))]
 fn part_form(part: &Part) -> bool
     ensures { result ≡ form.part_form (view_part part.now) }
 {
@@ -70,7 +73,6 @@ fn word_forms(words: &[Word]) -> bool
 
 // ---- the command's name
 
-#[tactic(auto, using(crate::proofs::Views::plain_seen, crate::proofs::Views::exact_seen, crate::proofs::Views::double_seen, crate::proofs::Views::param_seen))]
 fn is_plain(part: &Part) -> bool
     ensures { result ≡ form.is_plain (view_part part.now) }
 {
@@ -88,7 +90,6 @@ fn all_plain(parts: &[Part]) -> bool
     parts.iter().all(|part| is_plain(part))
 }
 
-#[tactic(auto, using(crate::proofs::Views::plain_seen, crate::proofs::Views::exact_seen, crate::proofs::Views::double_seen, crate::proofs::Views::param_seen, crate::proofs::FormLaws::forms_are))]
 fn is_literal_part(part: &Part) -> bool
     ensures { result ≡ form.is_literal_part (view_part part.now) }
 {
@@ -106,7 +107,6 @@ fn all_literal(parts: &[Part]) -> bool
     parts.iter().all(|part| is_literal_part(part))
 }
 
-#[tactic(auto, using(crate::proofs::Views::plain_seen, crate::proofs::Views::exact_seen, crate::proofs::Views::double_seen, crate::proofs::Views::param_seen))]
 fn append_plain(part: &Part, text: &mut Text) -> Result<(), Memory>
     ensures { OnOk result (text.new ≡ text.old ++ form.plain_text (view_part part.now)) }
 {
@@ -127,7 +127,6 @@ fn append_all_plain(parts: &[Part], text: &mut Text) -> Result<(), Memory>
     Ok(())
 }
 
-#[tactic(auto, using(crate::proofs::Views::plain_seen, crate::proofs::Views::exact_seen, crate::proofs::Views::double_seen, crate::proofs::Views::param_seen, crate::proofs::FormLaws::texts_are))]
 fn append_literal(part: &Part, text: &mut Text) -> Result<(), Memory>
     ensures { OnOk result (text.new ≡ text.old ++ form.literal_part_text (view_part part.now)) }
 {
@@ -185,13 +184,34 @@ fn assign_form(assign: &Assign) -> bool
     is_free_name(assign.name.text.bytes()) && value_form(&assign.value)
 }
 
+/// Whether these words, without an assignment, are taken.
+fn call_form(alloc: Global, words: &[Word]) -> Result<bool, Memory>
+    ensures { IfOk result (λ b. b ≡ form.command_form (simple no_assign (words_of words.now))) }
+{
+    match words {
+        [] => Ok(false),
+        [name, ..] => {
+            let (_, args) = words.split_at(1);
+            let named = name_form(alloc, name)?;
+            Ok(named && word_forms(args))
+        }
+    }
+}
+
+/// Whether these assignments, of which there are some, are taken by themselves.
+fn assigns_form(assigns: &[Assign]) -> bool
+    requires { 0 < length assigns.now }
+    ensures { result ≡ form.command_form (simple (assigns_of assigns.now) no_word) }
+{
+    assigns.len() == 1 && assign_form(&assigns[0])
+}
+
 /// Whether the command is one assignment, or a literal name that no shell knows with its arguments.
 pub fn is_taken(alloc: Global, kind: &CommandKind) -> Result<bool, Memory>
     ensures { IfOk result (λ b. b ≡ form.command_form (command_of kind.now)) }
 {
-    match (kind.assigns(), kind.words()) {
-        ([assign], []) => Ok(assign_form(assign)),
-        ([], [name, args @ ..]) => Ok(name_form(alloc, name)? && word_forms(args)),
-        _ => Ok(false),
+    if kind.assigns().is_empty() {
+        return call_form(alloc, kind.words());
     }
+    Ok(kind.words().is_empty() && assigns_form(kind.assigns()))
 }

@@ -4,6 +4,7 @@
 mod commands;
 mod fault;
 mod form;
+mod lines;
 mod words;
 
 fn main() {}

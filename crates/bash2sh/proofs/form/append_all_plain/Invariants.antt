@@ -1,0 +1,8 @@
+use Rattle.std.proofs.Common.{◌≡◌, ◌++◌, take}
+use Rattle.std.specs.List.{flat_map}
+use Rattle.bash_tree.specs.View.{view_part}
+use Rattle.bash2sh.specs.Form.{plain_text}
+use Rattle.bash2sh.proofs.form.append_all_plain.Given as goal
+
+abbrev pub invariant-loop-part : goal.invariant-loop-part
+invariant-loop-part l = l.text ≡ l.initial.text ++ flat_map (λ p. plain_text (view_part p)) (take l.part-index l.parts)

@@ -1,0 +1,18 @@
+use Rattle.std.proofs.Common.{refl, sym, ◌∙◌}
+use Rattle.std.proofs.lemmas.List.{append-nil}
+use Rattle.bash2sh.specs.Form as form
+use Rattle.bash2sh.proofs.Views.{plain_seen, exact_seen, double_seen, param_seen}
+use Rattle.bash2sh.proofs.FormLaws.{forms_are, texts_are}
+use Rattle.bash2sh.proofs.form.append_plain.Goals as goal
+
+pub returns-in-Plain : goal.returns-in-Plain
+returns-in-Plain c = rw (plain_seen c.args.part.now c.in-Plain.bytes c.in-Plain.is) (rw c.bytes.ensures at c.append.ensures.ok)
+
+pub returns-in-Exact : goal.returns-in-Exact
+returns-in-Exact c = rw (exact_seen c.args.part.now c.in-Exact.field-0 c.in-Exact.is) (sym (append-nil c.args.text.now))
+
+pub returns-in-Double : goal.returns-in-Double
+returns-in-Double c = rw (double_seen c.args.part.now c.in-Double.field-0 c.in-Double.is) (sym (append-nil c.args.text.now))
+
+pub returns-in-Param : goal.returns-in-Param
+returns-in-Param c = rw (param_seen c.args.part.now _ _ c.in-Param.is) (sym (append-nil c.args.text.now))

@@ -1,0 +1,15 @@
+use Rattle.std.proofs.Common.{refl, sym, ◌∙◌}
+use Rattle.bash2sh.proofs.Views.{plain_seen, exact_seen, double_seen, param_seen}
+use Rattle.bash2sh.proofs.form.is_plain.Goals as goal
+
+pub returns-in-Plain : goal.returns-in-Plain
+returns-in-Plain c = rw (plain_seen c.args.part.now c.in-Plain.field-0 c.in-Plain.is) refl
+
+pub returns-in-Exact : goal.returns-in-Exact
+returns-in-Exact c = rw (exact_seen c.args.part.now c.in-Exact.field-0 c.in-Exact.is) refl
+
+pub returns-in-Double : goal.returns-in-Double
+returns-in-Double c = rw (double_seen c.args.part.now c.in-Double.field-0 c.in-Double.is) refl
+
+pub returns-in-Param : goal.returns-in-Param
+returns-in-Param c = rw (param_seen c.args.part.now _ _ c.in-Param.is) refl
