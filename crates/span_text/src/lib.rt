@@ -5,13 +5,17 @@
 #![tactic(auto)]
 
 mod boxed;
+mod expr;
 mod fault;
 mod list;
+mod span;
 mod text;
 
 pub use boxed::Boxed;
+pub use expr::{BinOp, Expr, StepOp, UnOp};
 pub use fault::{Failed, Memory};
 pub use list::List;
+pub use span::Span;
 pub use text::Text;
 
 #[cfg(test)]
