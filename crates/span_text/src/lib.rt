@@ -6,6 +6,7 @@
 #![tactic(auto)]
 
 mod boxed;
+mod expr;
 mod fault;
 mod known_names;
 mod list;
@@ -19,6 +20,7 @@ mod sure;
 mod text;
 
 pub use boxed::Boxed;
+pub use expr::{BinOp, Expr, StepOp, UnOp};
 pub use fault::{Failed, Memory};
 pub use known_names::{
     is_bash_word, is_builtin, is_known_command, is_refused_builtin, is_restricted, is_special_name,
