@@ -6,11 +6,13 @@
 
 mod boxed;
 mod fault;
+mod flagged;
 mod list;
 mod text;
 
 pub use boxed::Boxed;
 pub use fault::{Failed, Memory};
+pub use flagged::{Flagged, Item, Mark};
 pub use list::List;
 pub use text::Text;
 
