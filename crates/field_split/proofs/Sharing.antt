@@ -1,11 +1,11 @@
 -- What names get one after the other is what they get of the list of fields.
-use Rattle.std.proofs.Common.{◌≡◌, ℕ, zero, suc, ◌+◌, ◌-◌, ◌<◌, ◌≤◌, Bool, true, false, cond, leb, List, [], ◌∷◌, ◌++◌, length, take, map, replicate, refl, sym, ap, subst, ◌∙◌, arith}
+use Rattle.std.proofs.Common.{◌≡◌, ℕ, zero, suc, ◌+◌, ◌-◌, ◌<◌, ◌≤◌, Bool, true, false, List, [], ◌∷◌, ◌++◌, length, take, map, replicate, refl, sym, ap, ◌∙◌, arith}
 use Rattle.std.proofs.lemmas.Bool.Decides.{nat_tests}
 use Rattle.std.proofs.lemmas.List.{nil_from_length, append_assoc}
-use Rattle.std.specs.Prelude.{◌==◌, nat_le, if◌then◌else◌}
+use Rattle.std.specs.Prelude.{◌==◌, nat_le}
 use Rattle.span_text.specs.declared.flagged.Item.{Item}
 use Rattle.field_split.specs.declared.sort.Sort.TheVariants.{White}
-use Rattle.field_split.specs.Fields.{is_of, after, field, behind, fields_in, fields}
+use Rattle.field_split.specs.Fields.{after, field, behind, fields_in, fields}
 use Rattle.field_split.specs.Reading.{bytes_of, from_field, without_end, shared, texts_of}
 use Rattle.field_split.specs.Names.{last, names}
 use Rattle.field_split.proofs.Shorter.{behind_shorter}

@@ -1,5 +1,5 @@
 -- Fields of a flagged text: the Bash manual's "Word Splitting", POSIX's "Field Splitting" (XCU 2.6.5).
-use Rattle.std.specs.Prelude.{ℕ, zero, suc, Bool, true, false, not, ◌||◌, ◌&&◌, ◌==◌, if◌then◌else◌, List, [], ◌∷◌, length, drop, Option, Some, None}
+use Rattle.std.specs.Prelude.{ℕ, zero, suc, Bool, false, not, ◌||◌, ◌&&◌, ◌==◌, if◌then◌else◌, List, [], ◌∷◌, length, drop, Option, Some, None}
 use Rattle.std.specs.List.{list_any, prefix_len, take_while}
 use Rattle.span_text.specs.declared.flagged.Mark.TheVariants.{Written, Quoted, Value}
 use Rattle.span_text.specs.declared.flagged.Item.{Item}

@@ -1,11 +1,11 @@
 -- Names of `read`: the Bash manual's "Bash Builtin Commands", POSIX's "read" (XCU 4). And lists joined to one text.
-use Rattle.std.specs.Prelude.{ℕ, zero, suc, ◌+◌, ◌-◌, Bool, true, false, ◌==◌, if◌then◌else◌, nat_le, List, [], ◌∷◌, ◌++◌, length, take, drop, map, replicate, Option, Some, None}
+use Rattle.std.specs.Prelude.{ℕ, zero, suc, ◌+◌, ◌-◌, Bool, true, false, ◌==◌, if◌then◌else◌, nat_le, List, [], ◌∷◌, ◌++◌, length, take, map, replicate, Option, Some, None}
 use Rattle.std.specs.List.{filter_map, suffix_len}
 use Rattle.span_text.specs.declared.flagged.Mark.TheVariants.{Quoted, Value}
 use Rattle.span_text.specs.declared.flagged.Item.{Item}
 use Rattle.span_text.specs.declared.flagged.Item.TheVariants.{Byte, Quote}
 use Rattle.field_split.specs.declared.sort.Sort.TheVariants.{White}
-use Rattle.field_split.specs.Fields.{is_of, after, field, behind, fields}
+use Rattle.field_split.specs.Fields.{is_of, after, behind, fields}
 
 abbrev pub byte_of : Item → Option ℕ
 byte_of (Byte b mark) = Some b

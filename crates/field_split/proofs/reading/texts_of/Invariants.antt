@@ -1,4 +1,4 @@
-use Rattle.std.proofs.Common.{◌≡◌, ◌++◌, ◌-◌, ◌≤◌}
+use Rattle.std.proofs.Common.{◌≡◌, ◌++◌, ◌-◌}
 use Rattle.field_split.specs.declared.sort.Sort.TheVariants as sort
 use Rattle.field_split.specs.Fields.{after}
 use Rattle.field_split.specs.Names.{names}

@@ -2,7 +2,7 @@ use Rattle.std.proofs.Common.{◌≡◌, false, true, length, sym, ◌∙◌}
 use Rattle.std.specs.Prelude.{◌==◌}
 use Rattle.field_split.specs.declared.sort.Sort.TheVariants.{White}
 use Rattle.field_split.specs.Fields.{after, fields}
-use Rattle.field_split.proofs.Loops.{Cut-next, Cut-none, Cut-done, behind_smaller}
+use Rattle.field_split.proofs.Loops.{Cut-next, Cut-done, behind_smaller}
 use Rattle.field_split.proofs.splitting.split_at.Goals as goal
 
 pub fields-smaller : goal.fields-smaller

@@ -1,0 +1,6 @@
+pub mod Pieces
+pub mod Lengths
+pub mod Steps
+pub mod Signs
+pub mod Brackets
+pub mod Reading
