@@ -1,3 +1,6 @@
 pub mod Cuts
 pub mod Greedy
 pub mod Least
+pub mod Closing
+pub mod Spelling
+pub mod Parts

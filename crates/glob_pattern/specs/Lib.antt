@@ -4,3 +4,4 @@ pub mod Steps
 pub mod Signs
 pub mod Brackets
 pub mod Reading
+pub mod Faults
