@@ -83,11 +83,11 @@ pub State-run : (pieces ahead last : List Piece) (text rest left : List ℕ) (st
 State-run pieces ahead last text rest left starred b e s =
     let run = starts_run ahead b e in
     let there : answer starred last left ≡ true → some_end (matches (drop 1 ahead)) rest ≡ true =
-      (λ h. let found = answer_found starred last left h in
-        let at : some_end (matches (drop 1 ahead)) (drop (found.0) rest) ≡ true = sym (run (drop (found.0) rest)) ∙ s.forth (found.0) (found.1) in
-        end_drop (matches (drop 1 ahead)) (found.0) rest at) in
+    (λ h. let found = answer_found starred last left h in
+    let at : some_end (matches (drop 1 ahead)) (drop (found.0) rest) ≡ true = sym (run (drop (found.0) rest)) ∙ s.forth (found.0) (found.1) in
+    end_drop (matches (drop 1 ahead)) (found.0) rest at) in
     let here : some_end (matches (drop 1 ahead)) rest ≡ true → answer starred last left ≡ true =
-      (λ h. answer_here starred last left (s.back (run rest ∙ h))) in
+    (λ h. answer_here starred last left (s.back (run rest ∙ h))) in
     record {
       so_far = s.so_far ∙ same_truth (answer starred last left) (some_end (matches (drop 1 ahead)) rest) there here;
       forth = λ j h. h;
@@ -146,10 +146,10 @@ drop_nothing (suc j) = refl
 pub State-end : (pieces ahead last : List Piece) (text left : List ℕ) (starred : Bool) → State pieces ahead last text [] left starred → matches pieces text ≡ all_runs ahead
 State-end pieces ahead last text left starred s =
     let there : answer starred last left ≡ true → all_runs ahead ≡ true =
-      (λ h. let found = answer_found starred last left h in
-        sym (ap (matches ahead) (drop_nothing (found.0)) ∙ matches-end ahead) ∙ s.forth (found.0) (found.1)) in
+    (λ h. let found = answer_found starred last left h in
+    sym (ap (matches ahead) (drop_nothing (found.0)) ∙ matches-end ahead) ∙ s.forth (found.0) (found.1)) in
     let here : all_runs ahead ≡ true → answer starred last left ≡ true =
-      (λ h. answer_here starred last left (s.back (matches-end ahead ∙ h))) in
+    (λ h. answer_here starred last left (s.back (matches-end ahead ∙ h))) in
     s.so_far ∙ same_truth (answer starred last left) (all_runs ahead) there here
 
 -- the same as the loop has them, where a byte is left

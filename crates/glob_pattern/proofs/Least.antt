@@ -24,8 +24,9 @@ least_old test n m h = rw (← h) refl
 pub least_found : (test : ℕ → Bool) (n m : ℕ) → n ≤ m → test n ≡ true → ((k : ℕ) → k < n → test k ≡ false) → Some n ≡ least test m
 least_found test n zero l e none = let z : n ≡ 0 = omega arith in let f : test 0 ≡ true = subst (λ (k : ℕ). test k ≡ true) z e in rw (z, f) refl
 least_found test n (suc m) l e none = elim (last_or_before n m l) [
-    inl h ↦ least_old test n m (least_found test n m h e none)
-  | inr h ↦ subst (λ (k : ℕ). Some k ≡ least test (suc m)) (sym h) (least_new test m (subst (λ (k : ℕ). test k ≡ true) h e) (λ k g. none k (omega arith))) ]
+  | inl h ↦ least_old test n m (least_found test n m h e none)
+  | inr h ↦ subst (λ (k : ℕ). Some k ≡ least test (suc m)) (sym h) (least_new test m (subst (λ (k : ℕ). test k ≡ true) h e) (λ k g. none k (omega arith)))
+]
 
 pub greatest_none : (test : ℕ → Bool) (m : ℕ) → ((k : ℕ) → k ≤ m → test k ≡ false) → None ≡ greatest test m
 greatest_none test zero none = let e : test 0 ≡ false = none 0 (omega arith) in rw e refl
@@ -41,5 +42,6 @@ greatest_here test (suc m) e = rw e refl
 pub greatest_found : (test : ℕ → Bool) (n m : ℕ) → n ≤ m → test n ≡ true → ((k : ℕ) → n < k → k ≤ m → test k ≡ false) → Some n ≡ greatest test m
 greatest_found test n zero l e none = let z : n ≡ 0 = omega arith in let f : test 0 ≡ true = subst (λ (k : ℕ). test k ≡ true) z e in rw (z, f) refl
 greatest_found test n (suc m) l e none = elim (last_or_before n m l) [
-    inl h ↦ let f : test (suc m) ≡ false = none (suc m) (omega arith) (omega arith) in rw f (greatest_found test n m h e (λ k g j. none k g (omega arith)))
-  | inr h ↦ subst (λ (k : ℕ). Some k ≡ greatest test (suc m)) (sym h) (greatest_here test (suc m) (subst (λ (k : ℕ). test k ≡ true) h e)) ]
+  | inl h ↦ let f : test (suc m) ≡ false = none (suc m) (omega arith) (omega arith) in rw f (greatest_found test n m h e (λ k g j. none k g (omega arith)))
+  | inr h ↦ subst (λ (k : ℕ). Some k ≡ greatest test (suc m)) (sym h) (greatest_here test (suc m) (subst (λ (k : ℕ). test k ≡ true) h e))
+]

@@ -20,3 +20,6 @@ pub use fault::PatternFault;
 pub use pattern::Pattern;
 pub use piece::{Member, Piece};
 pub use sign::Use;
+
+#[cfg(test)]
+mod tests;

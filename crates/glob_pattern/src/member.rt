@@ -96,13 +96,7 @@ pub fn place_if(doubt: bool, signs: &[Sign]) -> Option<usize>
 {
     match signs {
         [] => None,
-        [sign, ..] => {
-            if doubt {
-                Some(sign.at)
-            } else {
-                None
-            }
-        }
+        [sign, ..] => { if doubt { Some(sign.at) } else { None } }
     }
 }
 
