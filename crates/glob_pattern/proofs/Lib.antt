@@ -4,3 +4,4 @@ pub mod Least
 pub mod Closing
 pub mod Spelling
 pub mod Parts
+pub mod Splits

@@ -5,3 +5,4 @@ pub mod Signs
 pub mod Brackets
 pub mod Reading
 pub mod Faults
+pub mod Paths

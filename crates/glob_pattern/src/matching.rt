@@ -35,7 +35,7 @@ fn step_of(pieces: &[Piece], b: u8) -> Step
 }
 
 /// What stands behind the first item.
-fn behind<T>(items: &[T]) -> &[T]
+pub fn behind<T>(items: &[T]) -> &[T]
     ensures { result.now ≡ drop 1 items.now }
 {
     match items {

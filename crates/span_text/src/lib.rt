@@ -8,6 +8,7 @@ mod boxed;
 mod fault;
 mod flagged;
 mod list;
+mod order;
 mod text;
 
 pub use boxed::Boxed;
