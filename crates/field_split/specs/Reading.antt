@@ -15,7 +15,7 @@ byte_of Quote = None
 unfoldable pub bytes_of : List Item → List ℕ
 bytes_of text = filter_map byte_of text
 
--- A backslash keeps the next byte, joins two lines before a newline, and is dropped at the end. The number tells
+-- A backslash keeps the next byte, joins two lines before a newline, and is dropped at the end. The truth value tells
 -- whether one stands just before.
 abbrev pub unescaped : Bool → List ℕ → List Item
 unescaped escaped [] = []

@@ -11,7 +11,7 @@ mod splitting;
 
 pub use joining::join;
 pub use reading::read_fields;
-pub use splitting::split;
+pub use splitting::{fields_between, split};
 
 #[cfg(test)]
 mod tests;

@@ -1,8 +1,10 @@
 //! The fields of a word after its expansion.
 
-ghost use Rattle.std.specs.Prelude.{◌≡◌, IfOk};
+ghost use Rattle.std.specs.Prelude.{◌≡◌, ℕ, List, IfOk};
 ghost use Rattle.std.specs.Option.{option_copied};
 ghost use Rattle.field_split.specs.Fields.{separators, fields};
+ghost use Rattle.field_split.specs.Cuts.{AreFields};
+ghost use Rattle.span_text.specs.declared.flagged.Item.{Item};
 
 use crate::sort::{Sort, after, behind, field};
 use span_text::{Flagged, Item, List, Memory};
@@ -40,3 +42,10 @@ pub fn split(alloc: Global, text: &Flagged, ifs: Option<&[u8]>) -> Result<List<F
 {
     split_at(alloc, text.items(), separators(ifs))
 }
+
+/// The fields are the parts of a text between its delimiters, each of which is as long as it can be, and no other list
+/// is.
+pub fn fields_between()
+    ensures are { (ifs : List ℕ) (text : List Item) → AreFields ifs (fields ifs text) text }
+    ensures alone { (ifs : List ℕ) (text : List Item) (all : List (List Item)) → AreFields ifs all text → all ≡ fields ifs text }
+{}
