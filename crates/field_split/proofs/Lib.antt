@@ -1,0 +1,4 @@
+pub mod Shorter
+pub mod Loops
+pub mod Sharing
+pub mod Between
