@@ -1,0 +1,4 @@
+pub mod Folds
+pub mod Passes
+pub mod Shorter
+pub mod Units
