@@ -4,3 +4,4 @@ pub mod Pieces
 pub mod Constants
 pub mod Fields
 pub mod Printing
+pub mod Check

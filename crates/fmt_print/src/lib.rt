@@ -5,6 +5,7 @@
 //! passes over the arguments until all are used. Read them in this order.
 #![tactic(auto)]
 
+mod check;
 mod constants;
 mod escapes;
 mod fault;
@@ -12,6 +13,7 @@ mod fields;
 mod pieces;
 mod printing;
 
+pub use check::FormatCheck;
 pub use fault::FmtFault;
 pub use printing::format;
 use span_text::Text;

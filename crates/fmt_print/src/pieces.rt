@@ -51,19 +51,19 @@ pub enum Piece {
     Escapes,
 }
 
-fn is_digit(byte: u8) -> bool
+pub fn is_digit(byte: u8) -> bool
     ensures { result ≡ pieces.is_digit byte }
 {
     b'0' <= byte && byte <= b'9'
 }
 
-fn is_flag(byte: u8) -> bool
+pub fn is_flag(byte: u8) -> bool
     ensures { result ≡ pieces.is_flag byte }
 {
     byte == b'-' || byte == b'0' || byte == b'+' || byte == b' '
 }
 
-fn with_flag(mut flags: Flags, byte: u8) -> Flags
+pub fn with_flag(mut flags: Flags, byte: u8) -> Flags
     ensures { result ≡ pieces.with_flag flags byte }
 {
     match byte {
@@ -123,7 +123,7 @@ fn take_precision(bytes: &[u8]) -> Option<(Option<usize>, &[u8])>
     }
 }
 
-fn kind_of(letter: u8) -> Option<Kind>
+pub fn kind_of(letter: u8) -> Option<Kind>
     ensures { result ≡ pieces.kind_of letter }
 {
     match letter {
@@ -137,7 +137,7 @@ fn kind_of(letter: u8) -> Option<Kind>
     }
 }
 
-fn takes(kind: Kind, flags: Flags) -> bool
+pub fn takes(kind: Kind, flags: Flags) -> bool
     ensures { result ≡ pieces.takes kind flags }
 {
     match kind {

@@ -28,7 +28,17 @@ fn prints(
         cut,
     };
     assert_eq!(rt; format(rt.alloc(), fmt, &list), Ok(printed));
+    assert!(rt; is_format(fmt));
     Ok(())
+}
+
+/// Whether the bytes are a format, by one byte after another.
+fn is_format(fmt: &[u8]) -> bool {
+    let mut check = FormatCheck::new();
+    for byte in fmt {
+        check.step(*byte);
+    }
+    check.is_format()
 }
 
 fn refuses(
@@ -341,6 +351,7 @@ fn bad_formats_are_refused_at_their_place(rt: HostRuntime) -> Result<(), Fail> {
     ];
     for (fmt, at) in table {
         refuses(&rt, fmt, b",x,\\", FmtFault::BadFormat(at))?;
+        assert!(rt; !is_format(fmt), "{fmt:?}");
     }
     Ok(())
 }
