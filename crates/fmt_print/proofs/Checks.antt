@@ -1,11 +1,8 @@
 -- Formats byte by byte.
-use Rattle.std.proofs.Common.{◌≡◌, ℕ, ◌+◌, ◌<◌, Bool, true, false, cond, eqb, List, [], ◌∷◌, length, Option, None, Some, refl, sym, ap, ◌∙◌, arith}
+use Rattle.std.proofs.Common.{◌≡◌, ℕ, ◌<◌, true, false, cond, eqb, List, [], ◌∷◌, length, Option, None, Some, refl, ap, ◌∙◌, arith}
 use Rattle.std.proofs.lemmas.Bool.{ne_eqb}
-use Rattle.std.specs.Option.{option_map, option_and_then}
-use Rattle.fmt_print.specs.Pieces.{piece_at, escape_at, percent_at, pieces, with_piece, letter_at, takes, kind_of, field_of}
+use Rattle.fmt_print.specs.Pieces.{piece_at, escape_at, percent_at, pieces, with_piece}
 use Rattle.fmt_print.specs.Check.{reads_whole, goes_on}
-use Rattle.fmt_print.specs.declared.pieces.Flags.{Flags}
-use Rattle.fmt_print.specs.declared.pieces.Kind.{Kind}
 use Rattle.fmt_print.specs.declared.pieces.Piece.{Piece}
 use Rattle.fmt_print.specs.declared.pieces.Piece.TheVariants.{Byte}
 use Rattle.fmt_print.proofs.Folds.{fold_more, fold_none}

@@ -3,3 +3,4 @@ pub mod Folds
 pub mod Passes
 pub mod Shorter
 pub mod Units
+pub mod Words

@@ -1,9 +1,12 @@
 -- What is read of a text leaves no more than the text.
-use Rattle.std.proofs.Common.{◌≡◌, ℕ, suc, ◌+◌, ◌-◌, ◌*◌, ◌<◌, ◌≤◌, cond, leb, eqb, List, [], ◌∷◌, length, Option, None, Some, subst, arith, IfSome}
-use Rattle.std.specs.Option.{option_map, option_and_then}
+use Rattle.std.proofs.Common.{◌≡◌, ℕ, suc, ◌+◌, ◌-◌, ◌*◌, ◌<◌, ◌≤◌, cond, leb, ltb, eqb, ◌||◌, List, [], ◌∷◌, length, Option, None, Some, subst, arith, IfSome}
+use Rattle.std.specs.Option.{option_map, option_map_or, option_and_then}
 use Rattle.std.proofs.lemmas.Bool.{cond_both}
-use Rattle.fmt_print.specs.Escapes.{is_octal, more_octal, octal_byte, letter_escape, byte_unit, argument_escape, argument_unit}
-use Rattle.fmt_print.specs.Pieces.{is_digit, is_flag, with_flag, no_flags, flags_from, size_from, precision_at, kind_of, takes, field_of, letter_at, behind_width, behind_flags, conversion_at, percent_at, escape_at, piece_at}
+use Rattle.fmt_print.specs.Escapes.{is_octal, more_octal, octal_byte, letter_escape, byte_unit, argument_escape, more_hex, hex_unit, is_refused, echo_escape, escape_in, unit_at}
+use Rattle.fmt_print.specs.Pieces.{is_flag, with_flag, no_flags, flags_from, size_from, precision_at, kind_of, takes, field_of, letter_at, behind_width, behind_flags, conversion_at, percent_at, escape_at, piece_at}
+use Rattle.fmt_print.specs.Constants.{is_digit, digit_of}
+use Rattle.fmt_print.specs.declared.escapes.Dialect.{Dialect}
+use Rattle.fmt_print.specs.declared.escapes.Dialect.TheVariants.{Printf, Echo}
 use Rattle.fmt_print.specs.declared.escapes.Unit.{Unit as Item}
 use Rattle.fmt_print.specs.declared.escapes.Unit.TheVariants.{Byte}
 use Rattle.fmt_print.specs.declared.pieces.Flags.{Flags}
@@ -55,21 +58,54 @@ argument_escape_leaves (c ∷ bs) =
     (λ _. weaker (length bs) (length (c ∷ bs)) (option_map byte_unit (octal_byte bs)) (omega arith) (mapped (length bs) byte_unit (λ x. omega arith) (octal_byte bs) (octal_byte_leaves bs)))
     (λ _. cond_both (eqb c 99) _ _ P (λ _. omega arith) (λ _. option_leaves (length (c ∷ bs)) (λ (b : ℕ). Byte b) bs (omega arith) (letter_escape c)))
 
-argument_leaves : (b : ℕ) (bs : List ℕ) → Leaves (length bs) (argument_unit (b ∷ bs))
-argument_leaves b bs =
+hex_leaves : (value : ℕ) (text : List ℕ) → length (more_hex value text).1 ≤ length text
+hex_leaves value [] = omega arith
+hex_leaves value (c ∷ cs) =
+    cond_both {A = ℕ × List ℕ} (ltb (digit_of c) 16) (16 * value + digit_of c, cs) (value, c ∷ cs) (λ f. length f.1 ≤ length (c ∷ cs)) (λ _. omega arith) (λ _. omega arith)
+
+hex_unit_leaves : (text : List ℕ) → Leaves (length text) (hex_unit text)
+hex_unit_leaves [] = tt
+hex_unit_leaves (c ∷ cs) =
+    let P : Option (Item × List ℕ) → Type 0 = λ o. Leaves (length (c ∷ cs)) o in
+    let one = more_hex 0 (c ∷ cs) in
+    let first = hex_leaves 0 (c ∷ cs) in
+    let second = hex_leaves one.0 one.1 in
+    cond_both (ltb (digit_of c) 16) _ _ P (λ _. omega arith) (λ _. tt)
+
+stays_leaves : (c : ℕ) (bs : List ℕ) (byte : Option ℕ) → length (option_map_or {U = Item × List ℕ} (λ b. (Byte b, bs)) byte (Byte 92, c ∷ bs)).1 ≤ length (c ∷ bs)
+stays_leaves c bs None = omega arith
+stays_leaves c bs (Some byte) = omega arith
+
+echo_escape_leaves : (text : List ℕ) → Leaves (length text) (echo_escape text)
+echo_escape_leaves [] = omega arith
+echo_escape_leaves (c ∷ bs) =
+    let P : Option (Item × List ℕ) → Type 0 = λ o. Leaves (length (c ∷ bs)) o in
+    cond_both (eqb c 48) _ _ P
+    (λ _. weaker (length bs) (length (c ∷ bs)) (option_map byte_unit (octal_byte bs)) (omega arith) (mapped (length bs) byte_unit (λ x. omega arith) (octal_byte bs) (octal_byte_leaves bs)))
+    (λ _. cond_both (eqb c 99) _ _ P (λ _. omega arith) (λ _.
+    cond_both (eqb c 101 || eqb c 69) _ _ P (λ _. omega arith) (λ _.
+    cond_both (eqb c 120) _ _ P (λ _. weaker (length bs) (length (c ∷ bs)) (hex_unit bs) (omega arith) (hex_unit_leaves bs)) (λ _.
+    cond_both (is_refused c) _ _ P (λ _. tt) (λ _. stays_leaves c bs (letter_escape c))))))
+
+escape_leaves_in : (dialect : Dialect) (text : List ℕ) → Leaves (length text) (escape_in dialect text)
+escape_leaves_in Printf text = argument_escape_leaves text
+escape_leaves_in Echo text = echo_escape_leaves text
+
+unit_leaves : (dialect : Dialect) (b : ℕ) (bs : List ℕ) → Leaves (length bs) (unit_at dialect (b ∷ bs))
+unit_leaves dialect b bs =
     let P : Option (Item × List ℕ) → Type 0 = λ o. Leaves (length bs) o in
-    cond_both (eqb b 92) (argument_escape bs) (Some (Byte b, bs)) P (λ _. argument_escape_leaves bs) (λ _. omega arith)
+    cond_both (eqb b 92) (escape_in dialect bs) (Some (Byte b, bs)) P (λ _. escape_leaves_in dialect bs) (λ _. omega arith)
 
 less_from_leaves : {X : Type 0} (n : ℕ) (front : Option (X × List ℕ)) (x : X) (rest : List ℕ) → Leaves n front → front ≡ Some (x, rest) → length rest < suc n
 less_from_leaves n None x rest h e = absurd cc
 less_from_leaves n (Some front) x rest h e = let same : front.1 ≡ rest = cc in let P : List ℕ → Type 0 = λ r. length r < suc n in subst P same (omega arith)
 
-argument_less : (text : List ℕ) (x : Item) (rest : List ℕ) → argument_unit text ≡ Some (x, rest) → length rest < length text
-argument_less [] x rest e = absurd cc
-argument_less (b ∷ bs) x rest e = less_from_leaves (length bs) (argument_unit (b ∷ bs)) x rest (argument_leaves b bs) e
+unit_less : (dialect : Dialect) (text : List ℕ) (x : Item) (rest : List ℕ) → unit_at dialect text ≡ Some (x, rest) → length rest < length text
+unit_less dialect [] x rest e = absurd cc
+unit_less dialect (b ∷ bs) x rest e = less_from_leaves (length bs) (unit_at dialect (b ∷ bs)) x rest (unit_leaves dialect b bs) e
 
-pub argument_shrinks : Shrinks argument_unit
-argument_shrinks = record { less = argument_less }
+pub unit_shrinks : (dialect : Dialect) → Shrinks (unit_at dialect)
+unit_shrinks dialect = record { less = unit_less dialect }
 
 flags_leave : (flags : Flags) (text : List ℕ) → length (flags_from flags text).1 ≤ length text
 flags_leave flags [] = omega arith

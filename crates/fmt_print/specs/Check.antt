@@ -1,6 +1,6 @@
 -- Which bytes may follow those of a format that were seen so far.
-use Rattle.std.specs.Prelude.{ℕ, Bool, true, false, ◌==◌, nat_le, if◌then◌else◌, List, [], length, Option, None, Some}
-use Rattle.std.specs.Option.{option_map, option_and_then}
+use Rattle.std.specs.Prelude.{ℕ, Bool, false, ◌==◌, nat_le, if◌then◌else◌, List, length, Option, None, Some}
+use Rattle.std.specs.Option.{option_and_then}
 use Rattle.fmt_print.specs.Escapes.{more_octal}
 use Rattle.fmt_print.specs.Pieces.{flags_from, size_from, letter_at, behind_width, behind_flags, percent_at, escape_at, pieces, is_format}
 use Rattle.fmt_print.specs.declared.pieces.Flags.{Flags}

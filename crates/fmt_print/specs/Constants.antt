@@ -3,8 +3,10 @@
 -- ones, of a number in the range of 64 signed bits.
 use Rattle.std.specs.Prelude.{ℕ, ◌+◌, ◌-◌, ◌*◌, ◌^◌, Bool, true, false, ◌&&◌, ◌||◌, ◌==◌, nat_le, nat_lt, if◌then◌else◌, List, [], ◌∷◌, Option, None, Some}
 use Rattle.std.specs.Option.{option_and_then}
-use Rattle.fmt_print.specs.Pieces.{is_digit}
 use Rattle.fmt_print.specs.declared.constants.Number.{Number}
+
+abbrev pub is_digit : ℕ → Bool
+is_digit b = nat_le 48 b && nat_le b 57
 
 -- the value of a digit, 16 for what is none
 abbrev pub digit_of : ℕ → ℕ

@@ -1,8 +1,11 @@
 -- Escapes of bytes (POSIX, "printf", table "Escape Sequences", and "echo").
-use Rattle.std.specs.Prelude.{ℕ, ◌+◌, ◌-◌, ◌*◌, Bool, true, false, ◌&&◌, ◌==◌, nat_le, if◌then◌else◌, List, [], ◌∷◌, length, Option, None, Some}
-use Rattle.std.specs.Option.{option_map}
+use Rattle.std.specs.Prelude.{ℕ, ◌+◌, ◌-◌, ◌*◌, Bool, true, false, ◌&&◌, ◌||◌, ◌==◌, nat_le, nat_lt, if◌then◌else◌, List, [], ◌∷◌, length, Option, None, Some}
+use Rattle.std.specs.Option.{option_map, option_map_or}
 use Rattle.fmt_print.specs.Fronts.{fold_items}
 use Rattle.fmt_print.specs.declared.Printed.{Printed}
+use Rattle.fmt_print.specs.Constants.{digit_of}
+use Rattle.fmt_print.specs.declared.escapes.Dialect.{Dialect}
+use Rattle.fmt_print.specs.declared.escapes.Dialect.TheVariants.{Printf, Echo}
 use Rattle.fmt_print.specs.declared.escapes.Unit.{Unit as Item}
 use Rattle.fmt_print.specs.declared.escapes.Unit.TheVariants.{Byte, Cut}
 
@@ -35,9 +38,42 @@ argument_escape [] = None
 argument_escape (c ∷ bs) =
     if c == 48 then option_map byte_unit (octal_byte bs) else if c == 99 then Some (Cut, bs) else option_map (λ b. (Byte b, bs)) (letter_escape c)
 
-abbrev pub argument_unit : List ℕ → Option (Item × List ℕ)
-argument_unit [] = None
-argument_unit (b ∷ bs) = if b == 92 then argument_escape bs else Some (Byte b, bs)
+-- one more hexadecimal digit, where one stands there
+abbrev pub more_hex : ℕ → List ℕ → ℕ × List ℕ
+more_hex value [] = (value, [])
+more_hex value (c ∷ cs) = if nat_lt (digit_of c) 16 then (16 * value + digit_of c, cs) else (value, c ∷ cs)
+
+-- one or two hexadecimal digits
+abbrev pub hex_unit : List ℕ → Option (Item × List ℕ)
+hex_unit [] = None
+hex_unit (c ∷ cs) =
+    if nat_lt (digit_of c) 16 then (let one = more_hex 0 (c ∷ cs) in Some (byte_unit (more_hex one.0 one.1))) else None
+
+-- `\u \U` and `\1` to `\7` have meanings of their own in Bash
+abbrev pub is_refused : ℕ → Bool
+is_refused c = c == 117 || c == 85 || (nat_le 49 c && nat_le c 55)
+
+-- another backslash stays, and so does what follows it
+abbrev pub escape_or_stay : ℕ → List ℕ → Item × List ℕ
+escape_or_stay c bs = option_map_or (λ b. (Byte b, bs)) (letter_escape c) (Byte 92, c ∷ bs)
+
+abbrev pub escape_or_stay_at : List ℕ → Option (Item × List ℕ)
+escape_or_stay_at [] = Some (Byte 92, [])
+escape_or_stay_at (c ∷ bs) = Some (escape_or_stay c bs)
+
+-- what stands behind the backslash in a word of `echo -e`: besides the letters of `%b` `e` and `E`, and `x`
+abbrev pub echo_escape : List ℕ → Option (Item × List ℕ)
+echo_escape [] = Some (Byte 92, [])
+echo_escape (c ∷ bs) =
+    if c == 48 then option_map byte_unit (octal_byte bs) else if c == 99 then Some (Cut, bs) else if c == 101 || c == 69 then Some (Byte 27, bs) else if c == 120 then hex_unit bs else if is_refused c then None else Some (escape_or_stay c bs)
+
+abbrev pub escape_in : Dialect → List ℕ → Option (Item × List ℕ)
+escape_in Printf bs = argument_escape bs
+escape_in Echo bs = echo_escape bs
+
+abbrev pub unit_at : Dialect → List ℕ → Option (Item × List ℕ)
+unit_at dialect [] = None
+unit_at dialect (b ∷ bs) = if b == 92 then escape_in dialect bs else Some (Byte b, bs)
 
 -- the end of an argument, or a place from which nothing reads
 abbrev pub ended : List ℕ → Option Printed
@@ -50,6 +86,6 @@ with_unit Cut later = Some (record { text = []; cut = true })
 with_unit (Byte b) None = None
 with_unit (Byte b) (Some later) = Some (record { text = b ∷ later.text; cut = later.cut })
 
--- what `%b` prints of an argument
-unfoldable pub expanded : List ℕ → Option Printed
-expanded text = fold_items argument_unit ended with_unit (length text) text
+-- what `%b` prints of an argument, or `echo -e` of a word
+unfoldable pub expanded : Dialect → List ℕ → Option Printed
+expanded dialect text = fold_items (unit_at dialect) ended with_unit (length text) text

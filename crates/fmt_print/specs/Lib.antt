@@ -5,3 +5,4 @@ pub mod Constants
 pub mod Fields
 pub mod Printing
 pub mod Check
+pub mod Echoing

@@ -2,15 +2,13 @@
 use Rattle.std.specs.Prelude.{ℕ, ◌+◌, ◌-◌, ◌*◌, Bool, true, false, not, ◌&&◌, ◌||◌, ◌==◌, nat_le, if◌then◌else◌, List, [], ◌∷◌, length, Option, None, Some}
 use Rattle.std.specs.Option.{option_map, option_and_then}
 use Rattle.fmt_print.specs.Fronts.{fold_items}
+use Rattle.fmt_print.specs.Constants.{is_digit}
 use Rattle.fmt_print.specs.Escapes.{is_octal, octal_byte, letter_escape}
 use Rattle.fmt_print.specs.declared.pieces.Flags.{Flags}
 use Rattle.fmt_print.specs.declared.pieces.Kind.{Kind}
 use Rattle.fmt_print.specs.declared.pieces.Kind.TheVariants.{Decimal, Unsigned, Octal, LowerHex, UpperHex, Bytes}
 use Rattle.fmt_print.specs.declared.pieces.Piece.{Piece}
 use Rattle.fmt_print.specs.declared.pieces.Piece.TheVariants.{Byte, Field, Escapes}
-
-abbrev pub is_digit : ℕ → Bool
-is_digit b = nat_le 48 b && nat_le b 57
 
 -- `-`, `0`, `+` and space
 abbrev pub is_flag : ℕ → Bool

@@ -7,6 +7,7 @@ use Rattle.fmt_print.specs.Pieces.{begins_dash, pieces}
 use Rattle.fmt_print.specs.Constants.{constant}
 use Rattle.fmt_print.specs.Fields.{number_text, bytes_text}
 use Rattle.fmt_print.specs.declared.Printed.{Printed}
+use Rattle.fmt_print.specs.declared.escapes.Dialect.TheVariants.{Printf}
 use Rattle.fmt_print.specs.declared.printing.Pass.{Pass}
 use Rattle.fmt_print.specs.declared.fault.FmtFault.{FmtFault}
 use Rattle.fmt_print.specs.declared.fault.FmtFault.TheVariants.{BadFormat, BadNumber, BadEscape, Memory}
@@ -35,7 +36,7 @@ field_shows conversion argument =
 abbrev pub shows : Piece → List ℕ → Option Printed
 shows (Byte b) argument = Some (whole (b ∷ []))
 shows (Field conversion) argument = field_shows conversion argument
-shows Escapes argument = expanded argument
+shows Escapes argument = expanded Printf argument
 
 -- a missing argument is empty, and 0 where a number is wanted
 abbrev pub missing : Piece → List ℕ

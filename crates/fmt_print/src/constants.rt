@@ -10,7 +10,7 @@ pub struct Number {
     pub size: u64,
 }
 
-fn digit_of(byte: u8) -> u64
+pub fn digit_of(byte: u8) -> u64
     ensures value { result ≡ constants.digit_of byte }
     ensures bound { result ≤ 16 }
 {

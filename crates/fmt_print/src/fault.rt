@@ -1,6 +1,7 @@
 //! Why nothing was printed.
 
 ghost use Rattle.std.specs.Prelude.{◌≡◌};
+ghost use Rattle.fmt_print.specs.declared.fault.EchoFault.TheVariants as echo_fault;
 ghost use Rattle.fmt_print.specs.declared.fault.FmtFault.TheVariants as fault;
 
 use std::alloc::AllocError;
@@ -35,5 +36,23 @@ impl From<span_text::Memory> for FmtFault {
 
     fn from(_: span_text::Memory) -> FmtFault {
         FmtFault::Memory
+    }
+}
+
+/// The index counts from 0.
+#[derive(Debug, Drop, PartialEq, Error)]
+pub enum EchoFault {
+    /// The argument of this index has an escape that has no meaning here.
+    #[error("argument {0} has an escape that isn't supported")]
+    Unsupported(usize),
+    #[error("out of memory")]
+    Memory,
+}
+
+impl From<span_text::Memory> for EchoFault {
+    ghost from_gives = { λ _ e. e ≡ echo_fault.Memory };
+
+    fn from(_: span_text::Memory) -> EchoFault {
+        EchoFault::Memory
     }
 }

@@ -7,6 +7,7 @@
 
 mod check;
 mod constants;
+mod echoing;
 mod escapes;
 mod fault;
 mod fields;
@@ -14,7 +15,8 @@ mod pieces;
 mod printing;
 
 pub use check::FormatCheck;
-pub use fault::FmtFault;
+pub use echoing::echo_text;
+pub use fault::{EchoFault, FmtFault};
 pub use printing::format;
 use span_text::Text;
 

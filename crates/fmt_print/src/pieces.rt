@@ -1,6 +1,7 @@
 //! The pieces of a format.
 
 ghost use Rattle.std.specs.Prelude.{◌≡◌, ◌≤◌, IfOk, length};
+ghost use Rattle.fmt_print.specs.Constants.{is_digit as is_digit_of};
 ghost use Rattle.fmt_print.specs.Fronts.{seen};
 ghost use Rattle.fmt_print.specs.Pieces as pieces;
 
@@ -52,7 +53,7 @@ pub enum Piece {
 }
 
 pub fn is_digit(byte: u8) -> bool
-    ensures { result ≡ pieces.is_digit byte }
+    ensures { result ≡ is_digit_of byte }
 {
     b'0' <= byte && byte <= b'9'
 }

@@ -6,7 +6,7 @@ ghost use Rattle.fmt_print.specs.Printing as printing;
 
 use crate::Printed;
 use crate::constants::constant;
-use crate::escapes::expand;
+use crate::escapes::{Dialect, expand};
 use crate::fault::FmtFault;
 use crate::fields::{bytes_text, number_text};
 use crate::pieces::{Conversion, Kind, Piece, read_pieces};
@@ -50,7 +50,7 @@ fn shows(alloc: Global, piece: Piece, argument: &[u8]) -> Result<Option<Printed>
             cut: false,
         })),
         Piece::Field(conversion) => field_shows(alloc, conversion, argument),
-        Piece::Escapes => expand(alloc, argument),
+        Piece::Escapes => expand(alloc, Dialect::Printf, argument),
     }
 }
 
