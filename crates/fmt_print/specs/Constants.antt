@@ -10,7 +10,11 @@ is_digit b = nat_le 48 b && nat_le b 57
 
 -- the value of a digit, 16 for what is none
 abbrev pub digit_of : ℕ → ℕ
-digit_of c = if is_digit c then c - 48 else if nat_le 97 c && nat_le c 102 then c - 87 else if nat_le 65 c && nat_le c 70 then c - 55 else 16
+digit_of c =
+    if is_digit c then c - 48
+    else if nat_le 97 c && nat_le c 102 then c - 87
+    else if nat_le 65 c && nat_le c 70 then c - 55
+    else 16
 
 -- one more digit of a number of 64 bits
 abbrev pub with_digit : ℕ → ℕ → ℕ → Option ℕ
@@ -43,4 +47,6 @@ in_range negative size = if nat_le size (greatest negative) then Some (record { 
 abbrev pub constant : List ℕ → Option Number
 constant [] = None
 constant (c ∷ cs) =
-    if c == 45 then option_and_then (in_range true) (natural cs) else if c == 43 then option_and_then (in_range false) (natural cs) else option_and_then (in_range false) (natural (c ∷ cs))
+    if c == 45 then option_and_then (in_range true) (natural cs)
+    else if c == 43 then option_and_then (in_range false) (natural cs)
+    else option_and_then (in_range false) (natural (c ∷ cs))

@@ -27,7 +27,16 @@ octal_byte text =
 
 -- `\\ \a \b \f \n \r \t \v`
 abbrev pub letter_escape : ℕ → Option ℕ
-letter_escape c = if c == 92 then Some 92 else if c == 97 then Some 7 else if c == 98 then Some 8 else if c == 102 then Some 12 else if c == 110 then Some 10 else if c == 114 then Some 13 else if c == 116 then Some 9 else if c == 118 then Some 11 else None
+letter_escape c =
+    if c == 92 then Some 92
+    else if c == 97 then Some 7
+    else if c == 98 then Some 8
+    else if c == 102 then Some 12
+    else if c == 110 then Some 10
+    else if c == 114 then Some 13
+    else if c == 116 then Some 9
+    else if c == 118 then Some 11
+    else None
 
 abbrev pub byte_unit : ℕ × List ℕ → Item × List ℕ
 byte_unit front = (Byte front.0, front.1)
@@ -36,7 +45,9 @@ byte_unit front = (Byte front.0, front.1)
 abbrev pub argument_escape : List ℕ → Option (Item × List ℕ)
 argument_escape [] = None
 argument_escape (c ∷ bs) =
-    if c == 48 then option_map byte_unit (octal_byte bs) else if c == 99 then Some (Cut, bs) else option_map (λ b. (Byte b, bs)) (letter_escape c)
+    if c == 48 then option_map byte_unit (octal_byte bs)
+    else if c == 99 then Some (Cut, bs)
+    else option_map (λ b. (Byte b, bs)) (letter_escape c)
 
 -- one more hexadecimal digit, where one stands there
 abbrev pub more_hex : ℕ → List ℕ → ℕ × List ℕ
@@ -65,7 +76,12 @@ escape_or_stay_at (c ∷ bs) = Some (escape_or_stay c bs)
 abbrev pub echo_escape : List ℕ → Option (Item × List ℕ)
 echo_escape [] = Some (Byte 92, [])
 echo_escape (c ∷ bs) =
-    if c == 48 then option_map byte_unit (octal_byte bs) else if c == 99 then Some (Cut, bs) else if c == 101 || c == 69 then Some (Byte 27, bs) else if c == 120 then hex_unit bs else if is_refused c then None else Some (escape_or_stay c bs)
+    if c == 48 then option_map byte_unit (octal_byte bs)
+    else if c == 99 then Some (Cut, bs)
+    else if c == 101 || c == 69 then Some (Byte 27, bs)
+    else if c == 120 then hex_unit bs
+    else if is_refused c then None
+    else Some (escape_or_stay c bs)
 
 abbrev pub escape_in : Dialect → List ℕ → Option (Item × List ℕ)
 escape_in Printf bs = argument_escape bs

@@ -39,7 +39,10 @@ with_zeros (Some precision) size figures =
 
 -- the rest of the width is filled: behind the text, by zeros behind the sign, or before the sign
 abbrev pub placed : Bool → Bool → List ℕ → List ℕ → List ℕ → List ℕ
-placed left zeros fill sign body = if left then sign ++ (body ++ fill) else if zeros then sign ++ (fill ++ body) else fill ++ (sign ++ body)
+placed left zeros fill sign body =
+    if left then sign ++ (body ++ fill)
+    else if zeros then sign ++ (fill ++ body)
+    else fill ++ (sign ++ body)
 
 abbrev pub filled : Bool → Bool → ℕ → List ℕ → List ℕ → List ℕ
 filled left zeros width sign body = placed left zeros (replicate (width - length sign - length body) (if zeros then 48 else 32)) sign body

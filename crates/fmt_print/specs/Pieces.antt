@@ -18,7 +18,11 @@ abbrev pub no_flags : Flags
 no_flags = record { left = false; zero = false; plus = false; space = false }
 
 abbrev pub with_flag : Flags → ℕ → Flags
-with_flag flags b = if b == 45 then record flags { left = true } else if b == 48 then record flags { zero = true } else if b == 43 then record flags { plus = true } else record flags { space = true }
+with_flag flags b =
+    if b == 45 then record flags { left = true }
+    else if b == 48 then record flags { zero = true }
+    else if b == 43 then record flags { plus = true }
+    else record flags { space = true }
 
 abbrev pub flags_from : Flags → List ℕ → Flags × List ℕ
 flags_from flags [] = (flags, [])
@@ -28,7 +32,8 @@ flags_from flags (b ∷ bs) = if is_flag b then flags_from (with_flag flags b) b
 abbrev pub size_from : ℕ → List ℕ → Option (ℕ × List ℕ)
 size_from value [] = Some (value, [])
 size_from value (b ∷ bs) =
-    if is_digit b then (if nat_le (10 * value + (b - 48)) 9999 then size_from (10 * value + (b - 48)) bs else None) else Some (value, b ∷ bs)
+    if is_digit b then (if nat_le (10 * value + (b - 48)) 9999 then size_from (10 * value + (b - 48)) bs else None)
+    else Some (value, b ∷ bs)
 
 -- a dot and a number, or neither
 abbrev pub precision_at : List ℕ → Option (Option ℕ × List ℕ)
@@ -36,7 +41,14 @@ precision_at [] = Some (None, [])
 precision_at (b ∷ bs) = if b == 46 then option_map (λ front. (Some front.0, front.1)) (size_from 0 bs) else Some (None, b ∷ bs)
 
 abbrev pub kind_of : ℕ → Option Kind
-kind_of c = if c == 100 || c == 105 then Some Decimal else if c == 117 then Some Unsigned else if c == 111 then Some Octal else if c == 120 then Some LowerHex else if c == 88 then Some UpperHex else if c == 115 then Some Bytes else None
+kind_of c =
+    if c == 100 || c == 105 then Some Decimal
+    else if c == 117 then Some Unsigned
+    else if c == 111 then Some Octal
+    else if c == 120 then Some LowerHex
+    else if c == 88 then Some UpperHex
+    else if c == 115 then Some Bytes
+    else None
 
 -- `0` is for numbers, `+` and space for signed ones
 abbrev pub takes : Kind → Flags → Bool
@@ -68,13 +80,17 @@ conversion_at text = let front = flags_from no_flags text in behind_flags front.
 -- behind the `%`
 abbrev pub percent_at : List ℕ → Option (Piece × List ℕ)
 percent_at [] = None
-percent_at (c ∷ bs) = if c == 37 then Some (Byte 37, bs) else if c == 98 then Some (Escapes, bs) else conversion_at (c ∷ bs)
+percent_at (c ∷ bs) =
+    if c == 37 then Some (Byte 37, bs)
+    else if c == 98 then Some (Escapes, bs)
+    else conversion_at (c ∷ bs)
 
 -- behind the backslash: one to three octal digits, or a letter
 abbrev pub escape_at : List ℕ → Option (Piece × List ℕ)
 escape_at [] = None
 escape_at (c ∷ bs) =
-    if is_octal c then option_map (λ front. (Byte front.0, front.1)) (octal_byte (c ∷ bs)) else option_map (λ b. (Byte b, bs)) (letter_escape c)
+    if is_octal c then option_map (λ front. (Byte front.0, front.1)) (octal_byte (c ∷ bs))
+    else option_map (λ b. (Byte b, bs)) (letter_escape c)
 
 abbrev pub piece_at : List ℕ → Option (Piece × List ℕ)
 piece_at [] = None

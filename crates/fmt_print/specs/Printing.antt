@@ -31,7 +31,8 @@ is_bytes UpperHex = false
 -- what a conversion prints of an argument, where it takes it
 abbrev pub field_shows : Conversion → List ℕ → Option Printed
 field_shows conversion argument =
-    if is_bytes conversion.kind then Some (whole (bytes_text conversion argument)) else option_map (λ number. whole (number_text conversion number)) (constant argument)
+    if is_bytes conversion.kind then Some (whole (bytes_text conversion argument))
+    else option_map (λ number. whole (number_text conversion number)) (constant argument)
 
 abbrev pub shows : Piece → List ℕ → Option Printed
 shows (Byte b) argument = Some (whole (b ∷ []))
@@ -68,7 +69,8 @@ abbrev pub prints : List Piece → ℕ → List (List ℕ) → Result Printed Fm
 prints [] k arguments = Ok (whole [])
 prints (piece ∷ pieces) k [] = next (fault_of piece k) (shows piece (missing piece)) (prints pieces k [])
 prints (piece ∷ pieces) k (argument ∷ arguments) =
-    if takes_argument piece then next (fault_of piece k) (shows piece argument) (prints pieces (k + 1) arguments) else next (fault_of piece k) (shows piece (missing piece)) (prints pieces k (argument ∷ arguments))
+    if takes_argument piece then next (fault_of piece k) (shows piece argument) (prints pieces (k + 1) arguments)
+    else next (fault_of piece k) (shows piece (missing piece)) (prints pieces k (argument ∷ arguments))
 
 -- as often as there are arguments left, and once at least; once where nothing takes an argument
 abbrev pub passes : ℕ → ℕ → ℕ
@@ -84,7 +86,9 @@ prints_all pieces arguments = prints (repeated (passes (count_by takes_argument 
 -- a bad format is at the first piece that doesn't read, and at 0 where the text begins with `-`
 abbrev pub formatted : List ℕ → List (List ℕ) → Result Printed FmtFault
 formatted text arguments =
-    if begins_dash text then Err (BadFormat 0) else if length (pieces text).1 == 0 then prints_all (pieces text).0 arguments else Err (BadFormat (length text - length (pieces text).1))
+    if begins_dash text then Err (BadFormat 0)
+    else if length (pieces text).1 == 0 then prints_all (pieces text).0 arguments
+    else Err (BadFormat (length text - length (pieces text).1))
 
 -- this is the answer, or there is no memory left
 abbrev pub Answers : Result Printed FmtFault → Result Printed FmtFault → Type 0

@@ -68,7 +68,8 @@ impl FormatCheck {
 }
 
 fn stepped(state: State, byte: u8) -> State
-    ensures { (rest : List ℕ) → check.accepts_in result rest ≡ check.accepts_in state (byte ∷ rest) }
+    ensures { (rest : List ℕ) →
+        check.accepts_in result rest ≡ check.accepts_in state (byte ∷ rest) }
 {
     match state {
         State::Start => started(byte),
@@ -107,7 +108,8 @@ fn plain(byte: u8) -> State
 }
 
 fn escape(byte: u8) -> State
-    ensures { (rest : List ℕ) → check.accepts_in result rest ≡ check.goes_on (pieces.escape_at (byte ∷ rest)) }
+    ensures { (rest : List ℕ) →
+        check.accepts_in result rest ≡ check.goes_on (pieces.escape_at (byte ∷ rest)) }
 {
     if is_octal(byte) {
         return State::Octal(byte - b'0');
@@ -120,7 +122,8 @@ fn escape(byte: u8) -> State
 
 /// The second digit of an octal escape, or the byte behind it.
 fn octal(value: u8, byte: u8) -> State
-    ensures { (rest : List ℕ) → check.accepts_in result rest ≡ check.octal_goes_on (escapes.more_octal value (byte ∷ rest)) }
+    ensures { (rest : List ℕ) →
+        check.accepts_in result rest ≡ check.octal_goes_on (escapes.more_octal value (byte ∷ rest)) }
 {
     if is_octal(byte) {
         State::OctalTwo(8 * u16::from(value) + u16::from(byte - b'0'))
@@ -131,7 +134,8 @@ fn octal(value: u8, byte: u8) -> State
 
 /// The third digit of an octal escape, or the byte behind it.
 fn octal_two(value: u16, byte: u8) -> State
-    ensures { (rest : List ℕ) → check.accepts_in result rest ≡ check.octal_ends (escapes.more_octal value (byte ∷ rest)) }
+    ensures { (rest : List ℕ) →
+        check.accepts_in result rest ≡ check.octal_ends (escapes.more_octal value (byte ∷ rest)) }
 {
     if is_octal(byte) {
         if 8 * u32::from(value) + u32::from(byte - b'0') <= 255 {
@@ -147,7 +151,8 @@ fn octal_two(value: u16, byte: u8) -> State
 }
 
 fn percent(byte: u8) -> State
-    ensures { (rest : List ℕ) → check.accepts_in result rest ≡ check.goes_on (pieces.percent_at (byte ∷ rest)) }
+    ensures { (rest : List ℕ) →
+        check.accepts_in result rest ≡ check.goes_on (pieces.percent_at (byte ∷ rest)) }
 {
     match byte {
         b'%' | b'b' => State::Plain,
@@ -164,7 +169,8 @@ fn percent(byte: u8) -> State
 }
 
 fn flagged(flags: Flags, byte: u8) -> State
-    ensures { (rest : List ℕ) → check.accepts_in result rest ≡ check.flags_go_on (pieces.flags_from flags (byte ∷ rest)) }
+    ensures { (rest : List ℕ) →
+        check.accepts_in result rest ≡ check.flags_go_on (pieces.flags_from flags (byte ∷ rest)) }
 {
     if is_flag(byte) {
         State::Flagged(with_flag(flags, byte))
@@ -175,7 +181,8 @@ fn flagged(flags: Flags, byte: u8) -> State
 
 /// A digit of a width, or the byte behind it.
 fn wide(flags: Flags, width: u16, byte: u8) -> State
-    ensures { (rest : List ℕ) → check.accepts_in result rest ≡ check.width_goes_on flags (pieces.size_from width (byte ∷ rest)) }
+    ensures { (rest : List ℕ) →
+        check.accepts_in result rest ≡ check.width_goes_on flags (pieces.size_from width (byte ∷ rest)) }
 {
     if is_digit(byte) {
         let more = 10 * u32::from(width) + u32::from(byte - b'0');
@@ -193,7 +200,8 @@ fn wide(flags: Flags, width: u16, byte: u8) -> State
 
 /// A digit of a precision, or the letter.
 fn precise(flags: Flags, precision: u16, byte: u8) -> State
-    ensures { (rest : List ℕ) → check.accepts_in result rest ≡ check.precision_goes_on flags (pieces.size_from precision (byte ∷ rest)) }
+    ensures { (rest : List ℕ) →
+        check.accepts_in result rest ≡ check.precision_goes_on flags (pieces.size_from precision (byte ∷ rest)) }
 {
     if is_digit(byte) {
         let more = 10 * u32::from(precision) + u32::from(byte - b'0');

@@ -130,7 +130,8 @@ fn print_words(
     from: usize,
 ) -> Result<Text, EchoFault>
     requires { from ≤ length words.now }
-    ensures { echoing.EchoAnswers result (echoing.echoes options.escapes (echoing.end_of options) from (drop from words.now)) }
+    ensures { echoing.EchoAnswers result
+        (echoing.echoes options.escapes (echoing.end_of options) from (drop from words.now)) }
 {
     let mut text = Text::new(alloc);
     for k in from..words.len() {
@@ -145,9 +146,9 @@ fn print_words(
     Ok(text)
 }
 
-/// What the built-in `echo` prints of these words. Leading words of `-` and one or more of `n`, `e` and `E` are
-/// options: `n` leaves the newline out, and the last of `e` and `E` decides whether escapes are read. A `\c` ends
-/// all output, and nothing behind it is looked at.
+/// What the built-in `echo` prints of these words (the manual's "Bash Builtin Commands"). Leading words of `-` and
+/// one or more of `n`, `e` and `E` are options: `n` leaves the newline out, and the last of `e` and `E` decides
+/// whether escapes are read. A `\c` ends all output, and nothing behind it is looked at.
 ///
 /// `Unsupported` comes with the index of the first argument that has `\u`, `\U`, `\1` to `\7`, a `\x` without a
 /// digit, or a `\0` above 377.

@@ -1,8 +1,8 @@
-//! What the built-in `printf` prints.
+//! What the built-ins `printf` and `echo` print.
 //!
-//! `format` reads a format and prints arguments by it. Every answer is that of definitions on lists: `pieces`
-//! reads the format, `escapes` and `constants` the arguments, `fields` lays a conversion out, and `printing`
-//! passes over the arguments until all are used. Read them in this order.
+//! Every answer is that of definitions on lists. `pieces` reads a format, `check` tells of bytes whether they are
+//! one; `escapes` and `constants` read arguments, `fields` lays a conversion out, and `printing` passes over the
+//! arguments until all are used. `echoing` prints words. Read them in this order.
 #![tactic(auto)]
 
 mod check;
@@ -27,5 +27,7 @@ pub struct Printed {
     pub cut: bool,
 }
 
+#[cfg(test)]
+mod echo_tests;
 #[cfg(test)]
 mod tests;

@@ -192,13 +192,13 @@ fn begins_dash(format: &[u8]) -> bool
     }
 }
 
-/// What the built-in `printf` prints by this format. The format is used again while arguments are left; missing
-/// arguments are empty, or 0 where a number is wanted. A `\c` in an argument of `%b` ends all output, and
-/// nothing behind it is looked at.
+/// What the built-in `printf` prints by this format (the manual's "Bash Builtin Commands"). The format is used
+/// again while arguments are left; missing arguments are empty, or 0 where a number is wanted. A `\c` in an
+/// argument of `%b` ends all output, and nothing behind it is looked at.
 ///
-/// `BadFormat` comes first, with the offset of the first byte, escape or conversion that a format may not have
-/// (0 where it begins with `-`). Else `BadNumber` and `BadEscape` come with the index of the first argument that
-/// its conversion doesn't take.
+/// `BadFormat` comes first, with the offset of the first byte, escape or conversion that a format may not have (0
+/// where it begins with `-`). Else `BadNumber` and `BadEscape` come with the index of the first argument that its
+/// conversion doesn't take.
 pub fn format(alloc: Global, fmt: &[u8], args: &List<Text>) -> Result<Printed, FmtFault>
     ensures { printing.Answers result (printing.formatted fmt.now args.now) }
 {
