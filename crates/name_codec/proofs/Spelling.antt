@@ -3,11 +3,11 @@ use Rattle.std.proofs.Common.{◌≡◌, ℕ, suc, ◌+◌, ◌/◌, ◌%◌, �
 use Rattle.std.proofs.lemmas.Bool.{agree_below_at, and_from, eqb-true}
 use Rattle.std.proofs.lemmas.List.Folds.{list_all-append}
 use Rattle.std.specs.List.{flat_map, list_all}
-use Rattle.span_text.specs.Names.{continues_name, is_name, is_reserved}
+use Rattle.span_text.specs.Names.{is_name, is_reserved}
 use Rattle.name_codec.specs.declared.names.Role.{Role}
 use Rattle.name_codec.specs.declared.names.Role.TheVariants.{Temporary, Helper, HelperVariable, Array, Depth, SaveStack, Marks}
 use Rattle.name_codec.specs.Reserved.{role_letter, is_plain, spelled_byte, reserved_name, ReservedApart}
-use Rattle.name_codec.proofs.Named.{prefix_names, prefix_reserves}
+use Rattle.name_codec.proofs.Named.{follows, prefix_names, prefix_reserves}
 
 -- the use of a letter
 abbrev role_of : ℕ → Role
@@ -70,14 +70,14 @@ reserved_apart role other name text e =
     (same_role role other letter, same_name name text rest)
 
 -- each byte that is written may stand in a name
-names_byte : (b : ℕ) → b < 256 → list_all continues_name (spelled_byte b) ≡ true
-names_byte b byte = agree_below_at (λ c. list_all continues_name (spelled_byte c)) (λ _. true) 256 b refl byte
+names_byte : (b : ℕ) → b < 256 → list_all follows (spelled_byte b) ≡ true
+names_byte b byte = agree_below_at (λ c. list_all follows (spelled_byte c)) (λ _. true) 256 b refl byte
 
-names_bytes : (name : List ℕ) → ((i : ℕ) → get_or name i 0 < 256) → list_all continues_name (flat_map spelled_byte name) ≡ true
+names_bytes : (name : List ℕ) → ((i : ℕ) → get_or name i 0 < 256) → list_all follows (flat_map spelled_byte name) ≡ true
 names_bytes [] bytes = refl
-names_bytes (b ∷ bs) bytes = list_all-append continues_name (spelled_byte b) (flat_map spelled_byte bs) ∙ and_from _ _ (names_byte b (bytes 0)) (names_bytes bs (λ i. bytes (suc i)))
+names_bytes (b ∷ bs) bytes = list_all-append follows (spelled_byte b) (flat_map spelled_byte bs) ∙ and_from _ _ (names_byte b (bytes 0)) (names_bytes bs (λ i. bytes (suc i)))
 
-letter_names : (role : Role) → continues_name (role_letter role) ≡ true
+letter_names : (role : Role) → follows (role_letter role) ≡ true
 letter_names Temporary = refl
 letter_names Helper = refl
 letter_names HelperVariable = refl
