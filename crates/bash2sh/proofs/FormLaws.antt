@@ -39,14 +39,17 @@ assign_is [] a e is = absurd (omega arith)
 assign_is (x ∷ []) a e is = ap (λ (y : Assign). is_free_name y.name.text && value_form (view_value y.value)) (sym is)
 assign_is (x ∷ y ∷ ys) a e is = absurd (omega arith)
 
--- several assignments
-pub assigns_other : (as' : List Assign) → 0 < length as' → eqb (length as') 1 ≡ false → eqb (length as') 1 ≡ command_form (simple (assigns_of as') no_word)
-assigns_other [] lt e = absurd (omega arith)
-assigns_other (x ∷ []) lt e = absurd cc
-assigns_other (x ∷ y ∷ ys) lt e = e
-
 not_nothing : (n : ℕ) → eqb (suc n) 0 ≡ false
 not_nothing n = grind (arith, nat_tests)
+
+not_one : (n : ℕ) → eqb (suc (suc n)) 1 ≡ false
+not_one n = grind (arith, nat_tests)
+
+-- several assignments
+pub assigns_other : (as' : List Assign) → 0 < length as' → (length as' ≡ 1 → ⊥) → eqb (length as') 1 ≡ command_form (simple (assigns_of as') no_word)
+assigns_other [] lt other = absurd (omega arith)
+assigns_other (x ∷ []) lt other = absurd (other refl)
+assigns_other (x ∷ y ∷ ys) lt other = not_one (length ys)
 
 -- nothing is assigned
 pub no_assigns : (k : CommandKind) → eqb (length (assigns_in k)) 0 ≡ true → command_form (command_of k) ≡ command_form (simple no_assign (words_of (words_in k)))

@@ -1,4 +1,5 @@
 mod CommandLaws
+pub mod Cuts
 pub mod FormLaws
 mod LineLaws
 pub mod Loops

@@ -240,10 +240,10 @@ append_assign_does name v rest rest' e h = record { by = done }
         let m : Matches Both n (Ends (Value t.result) a n) (λ d f j. sh.joined sh.word_part (parts_of_value v) j b) = subst (λ (o : Res (Try Text) bash.Own). Matches Both n o (λ d f j. sh.joined sh.word_part (parts_of_value v) j b)) t.is ((parts_of_value_does v e).by n a b ag) in
         let k = ends_there Both n (Value t.result) a (λ d f j. sh.joined sh.word_part (parts_of_value v) j b) m in
         let r = sim_after (λ x a' b'. Agrees a' b' × (a' ≡ a) × (x ≡ Value t.result)) Both n (Ends (Value t.result) a n) (λ d f j. sh.joined sh.word_part (parts_of_value v) j b)
-                (with_value (append_then name rest)) (λ x d f j s. after (behind (sh_vars.text_of name b.own.vars) x j s) (with_value (sh_set_then name (rest' d)))) k (next n a b ag t.result) in
+        (with_value (append_then name rest)) (λ x d f j s. after (behind (sh_vars.text_of name b.own.vars) x j s) (with_value (sh_set_then name (rest' d)))) k (next n a b ag t.result) in
         subst (λ (o : Res (Try Text) bash.Own). Matches Both n (after o (with_value (append_then name rest))) (λ d f j. after (sh.value_text (lower_value true name v) j b) (with_value (sh_set_then name (rest' d))))) (sym t.is)
         (same_run Both n (after (Ends (Value t.result) a n) (with_value (append_then name rest))) _ (λ d f j. after (sh.value_text (lower_value true name v) j b) (with_value (sh_set_then name (rest' d))))
-         (λ d f j. sym (after_assoc (sh.joined sh.word_part (parts_of_value v) j b) (behind (sh_vars.text_of name b.own.vars)) (with_value (sh_set_then name (rest' d))))) r)
+        (λ d f j. sym (after_assoc (sh.joined sh.word_part (parts_of_value v) j b) (behind (sh_vars.text_of name b.own.vars)) (with_value (sh_set_then name (rest' d))))) r)
 
 assign_does : (append : Bool) (name : Text) (v : shape.Value) (rest : Do Signal bash.Own) (rest' : ℕ → Do Signal sh.Own) → value_form v ≡ true → Does rest rest'
     → Does (λ n s. after (bash.value_text v n s) (with_value (λ t n s. after (now (bash.assigned append name t) n s) (if_normal rest)))) (λ d n s. after (sh.value_text (lower_value append name v) n s) (with_value (sh_set_then name (rest' d))))
@@ -342,7 +342,7 @@ module _ (world : World) (w : shape.Parts) (ws : shape.Words) (name : name_form 
     by = λ n a b ag.
         subst (λ (o : Res Signal bash.Own). Matches Both n o (λ d f j. sh.simple_run world sh_shape.no_assign (sh_shape.word (lower_parts w) (lower_words ws)) j b)) (sym (bash_named n a))
         (same_run Both n _ _ (λ d f j. sh.simple_run world sh_shape.no_assign (sh_shape.word (lower_parts w) (lower_words ws)) j b) (λ d f j. sym (sh_named j b))
-         ((then_does _ _ _ _ (fields_do ws args) next_does).by n a b ag));
+        ((then_does _ _ _ _ (fields_do ws args) next_does).by n a b ag));
   }
 
 status_does : (n : ℕ) → Does (now (bash.with_status n)) (λ d. now (sh.with_status n))

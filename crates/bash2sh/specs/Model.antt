@@ -122,9 +122,12 @@ command_at bytes = if starts begins_name bytes then by_sign (run_at continues_na
 abbrev pub of_form : Command → Option (Option Command)
 of_form c = if command_form c then Some (Some c) else None
 
+abbrev pub taken_at : List ℕ → Option (Option Command)
+taken_at bytes = command_at bytes >>= of_form
+
 unfoldable pub front_at : List ℕ → Option (Option Command)
 front_at [] = Some None
-front_at (b ∷ rest) = if b == 35 then (if list_all is_comment_byte rest then Some None else None) else (command_at (b ∷ rest) >>= of_form)
+front_at (b ∷ rest) = if b == 35 then (if list_all is_comment_byte rest then Some None else None) else taken_at (b ∷ rest)
 
 unfoldable pub line_at : List ℕ → Option (Option Command)
 line_at line = front_at (run_at is_blank line).1

@@ -1,6 +1,8 @@
 -- The nodes that are read, as the model has them.
-use Rattle.std.specs.Prelude.{◌≡◌, ℕ, Bool, List, map, Option, Some, None, Result, Ok, Err}
+use Rattle.std.specs.Prelude.{◌≡◌, ℕ, Bool, List, [], ◌∷◌, ◌++◌, map, Option, Some, None, Result, Ok, Err}
 use Rattle.std.proofs.Common.{Bor}
+use Rattle.std.specs.List.{slice_split}
+use Rattle.span_text.specs.Scanning.{is_newline}
 use Rattle.bash_tree.specs.declared.tree.Part.{Part}
 use Rattle.bash_tree.specs.declared.tree.Word.{Word}
 use Rattle.bash_tree.specs.Shape as shape
@@ -26,9 +28,6 @@ abbrev pub command_seen : Option CommandKind → Option shape.Command
 command_seen None = None
 command_seen (Some k) = Some (command_of k)
 
-abbrev pub lines_seen : List (Bor (List ℕ)) → List (List ℕ)
-lines_seen ls = map (λ l. l.now) ls
-
 -- what the loop over the lines gives
 abbrev pub GivesItems : Result (List Item) ReadFault → Result (List shape.Command) ℕ → Type 0
 GivesItems (Ok items) read = (cs : List shape.Command) × (read ≡ Ok cs) × (items_of items ≡ script_from cs)
@@ -38,3 +37,13 @@ GivesItems (Err (fault.NotYet place)) read = read ≡ Err place
 abbrev pub IfNotYet : ReadFault → (ℕ → Type 0) → Type 0
 IfNotYet fault.Memory P = Unit {0}
 IfNotYet (fault.NotYet place) P = P place
+
+-- a text is its first line and, behind its newline, what follows
+abbrev pub Cut : List ℕ → List ℕ → Option (Bor (List ℕ)) → Type 0
+Cut text line None = (text ≡ line) × (slice_split is_newline text ≡ line ∷ [])
+Cut text line (Some more) = (text ≡ line ++ 10 ∷ more.now) × (slice_split is_newline text ≡ line ∷ slice_split is_newline more.now)
+
+-- the command of a line, where it has one, stands behind the others
+abbrev pub Pushed : List Item → Option shape.Command → List Item → Type 0
+Pushed old None new = new ≡ old
+Pushed old (Some c) new = (i : Item) × (new ≡ old ++ i ∷ []) × (items_of (i ∷ []) ≡ shape.item (shape.alone c) shape.no_item)

@@ -18,7 +18,11 @@ fn value_of(alloc: Global, bytes: &[u8], end: usize) -> Result<Option<Word>, Sto
     ensures { Gives value_of result (value_at bytes.now) }
 {
     if is_word_end(bytes) {
-        return if all_in(Class::Blank, bytes) { Ok(None) } else { Err(Stop::Bad) };
+        return if all_in(Class::Blank, bytes) {
+            Ok(None)
+        } else {
+            Err(Stop::Bad)
+        };
     }
     let (word, after) = word_of(alloc, bytes, end)?;
     if all_in(Class::Blank, after) {

@@ -4,6 +4,6 @@
 mod tree;
 
 pub use tree::{
-    AndOr, Assign, AssignValue, Command, CommandKind, Item, Joint, Name, Param, ParamOp, Part, PartKind, Pipeline,
-    Redirect, Script, Subscript, Word,
+    AndOr, Assign, AssignValue, Command, CommandKind, Item, Joint, Name, Param, ParamOp, Part,
+    PartKind, Pipeline, Redirect, Script, Subscript, Word,
 };

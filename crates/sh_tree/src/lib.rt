@@ -6,6 +6,6 @@ mod tree;
 
 pub use printer::print;
 pub use tree::{
-    AndOr, Assign, AssignValue, Command, CommandKind, Item, Joint, Name, Param, ParamOp, Part, PartKind, Pipeline,
-    Redirect, Script, Word,
+    AndOr, Assign, AssignValue, Command, CommandKind, Item, Joint, Name, Param, ParamOp, Part,
+    PartKind, Pipeline, Redirect, Script, Word,
 };

@@ -75,7 +75,6 @@ sim_choose P n true false s t u v a b e h h' = cc
 sim_choose P n false true s t u v a b e h h' = cc
 sim_choose P n false false s t u v a b e h h' = h'
 
-
 -- `after` twice, as one
 pub after_assoc : {X Y Z S : Type 0} (o : Res X S) (k : X → Do Y S) (h : Y → Do Z S) → after (after o k) h ≡ after o (λ x n s. after (k x n s) h)
 after_assoc (Ends g s n) k h = refl

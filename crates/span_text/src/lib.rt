@@ -8,27 +8,27 @@
 mod boxed;
 mod expr;
 mod fault;
+mod flagged;
 mod known_names;
 mod list;
 mod memory;
 mod name;
+mod order;
 mod scan;
 mod span;
 mod standard;
 mod stream;
 mod sure;
-mod flagged;
-mod order;
 mod text;
 
 pub use boxed::Boxed;
 pub use expr::{BinOp, Expr, StepOp, UnOp};
 pub use fault::{Failed, Memory};
+pub use flagged::{Flagged, Item, Mark};
 pub use known_names::{
     is_bash_word, is_builtin, is_known_command, is_refused_builtin, is_restricted, is_special_name,
     is_standard_word,
 };
-pub use flagged::{Flagged, Item, Mark};
 pub use list::List;
 pub use memory::{MemorySink, MemorySource};
 pub use name::{is_name, is_reserved};
