@@ -3,6 +3,7 @@ use Rattle.std.proofs.Common.{◌≡◌, ℕ, zero, suc, ◌+◌, ◌<◌, ◌�
 use Rattle.std.specs.List.{slice_split, onto_first}
 use Rattle.std.proofs.lemmas.Bool.{eqb-true}
 use Rattle.std.proofs.lemmas.List.Splits.{slice_split-cons_yes, slice_split-cons_no}
+use Rattle.memchr.specs.Find.{Nowhere, Passes, is_byte}
 use Rattle.span_text.specs.Scanning.{is_newline}
 
 -- no newline from the start on, up to n
@@ -27,3 +28,21 @@ unfolding is_newline
 around [] k lt e = absurd (omega arith)
 around (b ∷ bs) zero lt e = ap (λ (x : ℕ). x ∷ bs) (eqb-true _ _ e)
 around (b ∷ bs) (suc k) lt e = ap (λ (l : List ℕ). b ∷ l) (around bs k (omega arith) e)
+
+not_so : (b : Bool) → (b ≡ true → ⊥) → b ≡ false
+not_so true h = absurd (h refl)
+not_so false h = refl
+
+-- no newline is found before n
+pub free_before : (text : List ℕ) (n : ℕ) → Nowhere (Passes (is_byte 10) text) 0 n → Free text n
+unfolding is_newline
+free_before text n h k lt = not_so (is_newline (get_or text k 0)) (h k (omega arith) lt)
+
+pub is_found : (text : List ℕ) (k : ℕ) → Passes (is_byte 10) text k → is_newline (get_or text k 0) ≡ true
+unfolding is_newline
+is_found text k h = h
+
+pub one_more : (k : ℕ) (l : List ℕ) → drop 1 (drop k l) ≡ drop (suc k) l
+one_more zero l = refl
+one_more (suc k) [] = refl
+one_more (suc k) (b ∷ bs) = one_more k bs

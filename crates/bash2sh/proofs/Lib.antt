@@ -5,6 +5,7 @@ mod LineLaws
 pub mod Loops
 mod Lowered
 mod Meaning
+pub mod Rest
 mod Tools
 mod Variables
 pub mod Views
