@@ -8,8 +8,8 @@ mod tree;
 pub use printability::printable;
 pub use printer::print;
 pub use tree::{
-    AndOr, Assign, AssignValue, Command, CommandKind, Item, Joint, Name, Param, ParamOp, Part, PartKind, Pipeline,
-    Redirect, Script, Word,
+    AndOr, Assign, AssignValue, Command, CommandKind, Item, Joint, Name, Param, ParamOp, Part,
+    PartKind, Pipeline, Redirect, Script, Word,
 };
 
 #[cfg(test)]

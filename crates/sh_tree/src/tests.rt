@@ -18,7 +18,10 @@ fn two<T: Drop>(alloc: Global, first: T, second: T) -> Result<List<T>, Memory> {
 }
 
 fn part(kind: PartKind) -> Part {
-    Part { kind, span: NOWHERE }
+    Part {
+        kind,
+        span: NOWHERE,
+    }
 }
 
 fn plain(alloc: Global, text: &[u8]) -> Result<Part, Memory> {
@@ -34,21 +37,34 @@ fn double(parts: List<Part>) -> Part {
 }
 
 fn name(alloc: Global, text: &[u8]) -> Result<Name, Memory> {
-    Ok(Name { text: Text::copy(alloc, text)?, span: NOWHERE })
+    Ok(Name {
+        text: Text::copy(alloc, text)?,
+        span: NOWHERE,
+    })
 }
 
 fn param(alloc: Global, text: &[u8]) -> Result<Part, Memory> {
     let param = Param::Name(name(alloc, text)?);
-    Ok(part(PartKind::Param { param, op: ParamOp::Plain }))
+    Ok(part(PartKind::Param {
+        param,
+        op: ParamOp::Plain,
+    }))
 }
 
 fn word(parts: List<Part>) -> Word {
-    Word { parts, span: NOWHERE }
+    Word {
+        parts,
+        span: NOWHERE,
+    }
 }
 
 fn command(assigns: List<Assign>, words: List<Word>, alloc: Global) -> Command {
     let kind = CommandKind::Simple { assigns, words };
-    Command { kind, redirects: List::new(alloc), span: NOWHERE }
+    Command {
+        kind,
+        redirects: List::new(alloc),
+        span: NOWHERE,
+    }
 }
 
 fn call(alloc: Global, words: List<Word>) -> Command {
@@ -56,7 +72,11 @@ fn call(alloc: Global, words: List<Word>) -> Command {
 }
 
 fn assign(alloc: Global, text: &[u8], value: Option<Word>) -> Result<Assign, Memory> {
-    Ok(Assign { name: name(alloc, text)?, value: AssignValue::Word(value), span: NOWHERE })
+    Ok(Assign {
+        name: name(alloc, text)?,
+        value: AssignValue::Word(value),
+        span: NOWHERE,
+    })
 }
 
 fn pipeline(negated: bool, stages: List<Command>) -> Pipeline {
@@ -65,11 +85,18 @@ fn pipeline(negated: bool, stages: List<Command>) -> Pipeline {
 
 fn item(alloc: Global, only: Command) -> Result<Item, Memory> {
     let first = pipeline(false, one(alloc, only)?);
-    Ok(Item { chain: AndOr { first, rest: List::new(alloc) } })
+    Ok(Item {
+        chain: AndOr {
+            first,
+            rest: List::new(alloc),
+        },
+    })
 }
 
 fn script(alloc: Global, only: Command) -> Result<Script, Memory> {
-    Ok(Script { items: one(alloc, item(alloc, only)?)? })
+    Ok(Script {
+        items: one(alloc, item(alloc, only)?)?,
+    })
 }
 
 /// A command of one word.
@@ -80,12 +107,26 @@ fn calls(alloc: Global, parts: List<Part>) -> Result<Script, Memory> {
 /// `n=ab`, then `show "$n"'it''"s $x\' x`, whose second word has three parts.
 fn example(alloc: Global) -> Result<Script, Memory> {
     let value = word(one(alloc, plain(alloc, b"ab")?)?);
-    let first = command(one(alloc, assign(alloc, b"n", Some(value))?)?, List::new(alloc), alloc);
-    let mut parts = two(alloc, double(one(alloc, param(alloc, b"n")?)?), exact(alloc, b"it")?)?;
+    let first = command(
+        one(alloc, assign(alloc, b"n", Some(value))?)?,
+        List::new(alloc),
+        alloc,
+    );
+    let mut parts = two(
+        alloc,
+        double(one(alloc, param(alloc, b"n")?)?),
+        exact(alloc, b"it")?,
+    )?;
     parts.push(exact(alloc, b"\"s $x\\")?)?;
-    let mut words = two(alloc, word(one(alloc, plain(alloc, b"show")?)?), word(parts))?;
+    let mut words = two(
+        alloc,
+        word(one(alloc, plain(alloc, b"show")?)?),
+        word(parts),
+    )?;
     words.push(word(one(alloc, plain(alloc, b"x")?)?))?;
-    Ok(Script { items: two(alloc, item(alloc, first)?, item(alloc, call(alloc, words))?)? })
+    Ok(Script {
+        items: two(alloc, item(alloc, first)?, item(alloc, call(alloc, words))?)?,
+    })
 }
 
 const EXAMPLE: &[u8] = b"n=ab\nshow \"$n\"'it''\"s $x\\' x\n";
@@ -152,7 +193,11 @@ fn parts_that_run_together_are_not_printable(rt: HostRuntime) -> Result<(), Fail
     assert!(rt; !printable(&calls(alloc, one(alloc, double(longer))?)?));
     let apart = two(alloc, param(alloc, b"n")?, plain(alloc, b"-d")?)?;
     assert!(rt; printable(&calls(alloc, one(alloc, double(apart))?)?));
-    let closed = two(alloc, double(one(alloc, param(alloc, b"n")?)?), plain(alloc, b"cd")?)?;
+    let closed = two(
+        alloc,
+        double(one(alloc, param(alloc, b"n")?)?),
+        plain(alloc, b"cd")?,
+    )?;
     assert!(rt; printable(&calls(alloc, closed)?));
     Ok(())
 }
@@ -160,23 +205,46 @@ fn parts_that_run_together_are_not_printable(rt: HostRuntime) -> Result<(), Fail
 #[test]
 fn parts_hold_their_own_bytes_alone(rt: HostRuntime) -> Result<(), Fail> {
     let alloc = rt.alloc();
-    for text in [b"".as_slice(), b"a b", b"a'", b"$a", b"a\n", b"a\0", b"\xff"] {
-        assert!(rt; !printable(&calls(alloc, one(alloc, plain(alloc, text)?)?)?), "{text:?}");
+    for text in [
+        b"".as_slice(),
+        b"a b",
+        b"a'",
+        b"$a",
+        b"a\n",
+        b"a\0",
+        b"\xff",
+    ] {
+        assert!(rt;
+            !printable(&calls(alloc, one(alloc, plain(alloc, text)?)?)?),
+            "{text:?}"
+        );
     }
     for text in [b"it's".as_slice(), b"a\nb", b"a\0b"] {
-        assert!(rt; !printable(&calls(alloc, one(alloc, exact(alloc, text)?)?)?), "{text:?}");
+        assert!(rt;
+            !printable(&calls(alloc, one(alloc, exact(alloc, text)?)?)?),
+            "{text:?}"
+        );
     }
     for text in [b"".as_slice(), b" ", b"\"$`\\!#~\xff"] {
-        assert!(rt; printable(&calls(alloc, one(alloc, exact(alloc, text)?)?)?), "{text:?}");
+        assert!(rt;
+            printable(&calls(alloc, one(alloc, exact(alloc, text)?)?)?),
+            "{text:?}"
+        );
     }
     for text in [b"".as_slice(), b"\"", b"$", b"`", b"\\", b"\n", b"\0"] {
         let quoted = one(alloc, plain(alloc, text)?)?;
-        assert!(rt; !printable(&calls(alloc, one(alloc, double(quoted))?)?), "{text:?}");
+        assert!(rt;
+            !printable(&calls(alloc, one(alloc, double(quoted))?)?),
+            "{text:?}"
+        );
     }
     assert!(rt; printable(&calls(alloc, one(alloc, double(List::new(alloc)))?)?));
     for text in [b"".as_slice(), b"9", b"a-b"] {
         let quoted = one(alloc, param(alloc, text)?)?;
-        assert!(rt; !printable(&calls(alloc, one(alloc, double(quoted))?)?), "{text:?}");
+        assert!(rt;
+            !printable(&calls(alloc, one(alloc, double(quoted))?)?),
+            "{text:?}"
+        );
     }
     assert!(rt; !printable(&calls(alloc, one(alloc, param(alloc, b"n")?)?)?));
     let nested = one(alloc, exact(alloc, b"a")?)?;
@@ -200,7 +268,11 @@ fn a_bare_reserved_word_names_no_command(rt: HostRuntime) -> Result<(), Fail> {
 #[test]
 fn a_command_is_one_assignment_or_words(rt: HostRuntime) -> Result<(), Fail> {
     let alloc = rt.alloc();
-    assert!(rt; printable(&Script { items: List::new(alloc) }));
+    assert!(rt;
+        printable(&Script {
+            items: List::new(alloc)
+        })
+    );
     assert!(rt; !printable(&calls(alloc, List::new(alloc))?));
     assert!(rt; !printable(&script(alloc, call(alloc, List::new(alloc)))?));
     let empty = one(alloc, assign(alloc, b"n", None)?)?;
@@ -209,7 +281,11 @@ fn a_command_is_one_assignment_or_words(rt: HostRuntime) -> Result<(), Fail> {
     assert!(rt; !printable(&script(alloc, command(nameless, List::new(alloc), alloc))?));
     let partless = one(alloc, assign(alloc, b"n", Some(word(List::new(alloc))))?)?;
     assert!(rt; !printable(&script(alloc, command(partless, List::new(alloc), alloc))?));
-    let both = two(alloc, assign(alloc, b"n", None)?, assign(alloc, b"m", None)?)?;
+    let both = two(
+        alloc,
+        assign(alloc, b"n", None)?,
+        assign(alloc, b"m", None)?,
+    )?;
     assert!(rt; !printable(&script(alloc, command(both, List::new(alloc), alloc))?));
     let before = one(alloc, assign(alloc, b"n", None)?)?;
     let show = one(alloc, word(one(alloc, plain(alloc, b"show")?)?))?;
@@ -219,11 +295,21 @@ fn a_command_is_one_assignment_or_words(rt: HostRuntime) -> Result<(), Fail> {
 
 /// `show`.
 fn show(alloc: Global) -> Result<Command, Memory> {
-    Ok(call(alloc, one(alloc, word(one(alloc, plain(alloc, b"show")?)?))?))
+    Ok(call(
+        alloc,
+        one(alloc, word(one(alloc, plain(alloc, b"show")?)?))?,
+    ))
 }
 
 fn chains(alloc: Global, first: Pipeline, rest: List<(Joint, Pipeline)>) -> Result<Script, Memory> {
-    Ok(Script { items: one(alloc, Item { chain: AndOr { first, rest } })? })
+    Ok(Script {
+        items: one(
+            alloc,
+            Item {
+                chain: AndOr { first, rest },
+            },
+        )?,
+    })
 }
 
 #[test]
@@ -240,7 +326,10 @@ fn an_item_is_one_command(rt: HostRuntime) -> Result<(), Fail> {
     for joint in [Joint::And, Joint::Or] {
         let first = pipeline(false, one(alloc, show(alloc)?)?);
         let second = pipeline(false, one(alloc, show(alloc)?)?);
-        assert!(rt; !printable(&chains(alloc, first, one(alloc, (joint, second))?)?), "{joint:?}");
+        assert!(rt;
+            !printable(&chains(alloc, first, one(alloc, (joint, second))?)?),
+            "{joint:?}"
+        );
     }
     Ok(())
 }

@@ -75,9 +75,29 @@ pub record Marks : Type 0 where
 pub marks : Marks
 unfolding is_blank is_newline is_plain_byte is_exact_byte is_quoted_byte continues_name
 marks = record {
-  blank_is_blank = refl; newline_is_newline = refl; space_is_line = refl; quote_no_plain = refl; double_no_plain = refl; blank_no_plain = refl; dollar_no_plain = refl; hash_no_plain = refl; equals_no_plain = refl;
-  quote_no_blank = refl; double_no_blank = refl; hash_no_blank = refl; quote_no_exact = refl; double_no_quoted = refl; dollar_no_quoted = refl; double_no_name = refl; dollar_no_name = refl; equals_no_name = refl; plus_no_name = refl;
-  quote_is_line = refl; double_is_line = refl; dollar_is_line = refl; equals_is_line = refl;
+  blank_is_blank = refl;
+  newline_is_newline = refl;
+  space_is_line = refl;
+  quote_no_plain = refl;
+  double_no_plain = refl;
+  blank_no_plain = refl;
+  dollar_no_plain = refl;
+  hash_no_plain = refl;
+  equals_no_plain = refl;
+  quote_no_blank = refl;
+  double_no_blank = refl;
+  hash_no_blank = refl;
+  quote_no_exact = refl;
+  double_no_quoted = refl;
+  dollar_no_quoted = refl;
+  double_no_name = refl;
+  dollar_no_name = refl;
+  equals_no_name = refl;
+  plus_no_name = refl;
+  quote_is_line = refl;
+  double_is_line = refl;
+  dollar_is_line = refl;
+  equals_is_line = refl;
 }
 
 -- ---- texts

@@ -49,7 +49,14 @@ fn boxes_hold_their_value(rt: HostRuntime) -> Result<(), Fail> {
 #[test]
 fn places_count_lines_and_columns(rt: HostRuntime) {
     let text = b"ab\n\ncd\n".as_slice();
-    for (at, line, column) in [(0, 1, 1), (2, 1, 3), (3, 2, 1), (4, 3, 1), (6, 3, 3), (7, 4, 1)] {
+    for (at, line, column) in [
+        (0, 1, 1),
+        (2, 1, 3),
+        (3, 2, 1),
+        (4, 3, 1),
+        (6, 3, 3),
+        (7, 4, 1),
+    ] {
         assert!(rt; at <= text.len());
         assert_eq!(rt; place_of(text, at), Place { line, column }, "at {at}");
     }
@@ -62,13 +69,28 @@ fn names_have_letters_digits_and_underscores(rt: HostRuntime) {
     for name in [b"a".as_slice(), b"_", b"Z9", b"a_b", b"__bs_x"] {
         assert!(rt; is_name(name), "{name:?}");
     }
-    for text in [b"".as_slice(), b"9a", b"a-b", b"a b", b"a.", b"\xc3\xa4", b"a\0"] {
+    for text in [
+        b"".as_slice(),
+        b"9a",
+        b"a-b",
+        b"a b",
+        b"a.",
+        b"\xc3\xa4",
+        b"a\0",
+    ] {
         assert!(rt; !is_name(text), "{text:?}");
     }
     for name in [b"__bs_".as_slice(), b"__bs_x"] {
         assert!(rt; is_reserved(name), "{name:?}");
     }
-    for name in [b"".as_slice(), b"__bs", b"__b", b"_bs_x", b"x__bs_", b"__BS_x"] {
+    for name in [
+        b"".as_slice(),
+        b"__bs",
+        b"__b",
+        b"_bs_x",
+        b"x__bs_",
+        b"__BS_x",
+    ] {
         assert!(rt; !is_reserved(name), "{name:?}");
     }
 }
@@ -79,13 +101,22 @@ fn shells_know_commands_and_variables(rt: HostRuntime) {
         assert!(rt; is_builtin(name) && is_known_command(name), "{name:?}");
     }
     for name in [b".".as_slice(), b"eval", b"wait"] {
-        assert!(rt; is_refused_builtin(name) && is_known_command(name), "{name:?}");
+        assert!(rt;
+            is_refused_builtin(name) && is_known_command(name),
+            "{name:?}"
+        );
     }
     for name in [b"if".as_slice(), b"!", b"esac"] {
-        assert!(rt; is_standard_word(name) && is_restricted(name) && is_known_command(name), "{name:?}");
+        assert!(rt;
+            is_standard_word(name) && is_restricted(name) && is_known_command(name),
+            "{name:?}"
+        );
     }
     for name in [b"[[".as_slice(), b"time"] {
-        assert!(rt; is_bash_word(name) && is_restricted(name) && is_known_command(name), "{name:?}");
+        assert!(rt;
+            is_bash_word(name) && is_restricted(name) && is_known_command(name),
+            "{name:?}"
+        );
     }
     for name in [b"print".as_slice(), b"whence"] {
         assert!(rt; is_restricted(name) && is_known_command(name), "{name:?}");
@@ -93,18 +124,46 @@ fn shells_know_commands_and_variables(rt: HostRuntime) {
     for name in [b"".as_slice(), b"show", b"IF", b"ech", b"echos"] {
         assert!(rt; !is_known_command(name), "{name:?}");
     }
-    for name in [b"_".as_slice(), b"IFS", b"PS4", b"BASH", b"BASH_ENV", b"BASHx", b"COMP_LINE", b"LC_", b"LC_ALL", b"HISTSIZE"] {
+    for name in [
+        b"_".as_slice(),
+        b"IFS",
+        b"PS4",
+        b"BASH",
+        b"BASH_ENV",
+        b"BASHx",
+        b"COMP_LINE",
+        b"LC_",
+        b"LC_ALL",
+        b"HISTSIZE",
+    ] {
         assert!(rt; is_special_name(name), "{name:?}");
     }
-    for name in [b"".as_slice(), b"__", b"ifs", b"IFSx", b"BAS", b"xBASH", b"COMP", b"LC", b"HOME", b"PATH"] {
+    for name in [
+        b"".as_slice(),
+        b"__",
+        b"ifs",
+        b"IFSx",
+        b"BAS",
+        b"xBASH",
+        b"COMP",
+        b"LC",
+        b"HOME",
+        b"PATH",
+    ] {
         assert!(rt; !is_special_name(name), "{name:?}");
     }
 }
 
 #[test]
 fn runs_end_before_the_first_other_byte(rt: HostRuntime) {
-    assert_eq!(rt; run(Class::Plain, b"a.b c"), (b"a.b".as_slice(), b" c".as_slice()));
-    assert_eq!(rt; run(Class::Quoted, b"a'b\"c"), (b"a'b".as_slice(), b"\"c".as_slice()));
+    assert_eq!(rt;
+        run(Class::Plain, b"a.b c"),
+        (b"a.b".as_slice(), b" c".as_slice())
+    );
+    assert_eq!(rt;
+        run(Class::Quoted, b"a'b\"c"),
+        (b"a'b".as_slice(), b"\"c".as_slice())
+    );
     assert_eq!(rt; run_len(Class::Exact, b"\"$`\\#'x"), 5);
     assert_eq!(rt; run_len(Class::Blank, b" \t\n"), 2);
     assert!(rt; all_in(Class::Comment, b"a # '\" b") && !all_in(Class::Comment, b"a\nb"));
