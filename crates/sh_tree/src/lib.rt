@@ -1,11 +1,16 @@
-//! The syntax tree of sh text, and its printer (POSIX 2.10).
+//! The syntax tree of sh text, its printer, and which trees it takes (POSIX 2.10).
 #![tactic(auto)]
 
+mod printability;
 mod printer;
 mod tree;
 
+pub use printability::printable;
 pub use printer::print;
 pub use tree::{
     AndOr, Assign, AssignValue, Command, CommandKind, Item, Joint, Name, Param, ParamOp, Part,
     PartKind, Pipeline, Redirect, Script, Word,
 };
+
+#[cfg(test)]
+mod tests;

@@ -49,7 +49,16 @@ impl Source for SureSource {
 
     ghost faults = { λ _. 0 };
 
-    fn read(&mut self, buffer: &mut [u8]) -> Result<usize, Failed> {
+    fn read(&mut self, buffer: &mut [u8]) -> Result<usize, Failed>
+        ensures within { IfOk result (λ n. n ≤ length buffer.old) }
+        ensures moved { IfOk result (λ n. Moved (Some self.old) (Some self.new) buffer.new n) }
+        ensures end { result ≡ Ok 0 → 0 < length buffer.old → IsOver (Some self.old) }
+        ensures failed { OnErr result (Rose 0 0) }
+        ensures never_falls { 0 ≤ 0 }
+
+        // It gives what the buffer has room for.
+        ensures given { result ≡ Ok (min (length self.old) (length buffer.old)) }
+    {
         let n = copy_front(&self.bytes.bytes()[self.taken..], buffer);
         self.taken += n;
         Ok(n)
@@ -90,7 +99,18 @@ impl Sink for SureSink {
 
     ghost faults = { λ _. 0 };
 
-    fn write(&mut self, piece: &[u8]) -> Result<usize, Failed> {
+    fn write(&mut self, piece: &[u8]) -> Result<usize, Failed>
+        ensures within { IfOk result (λ n. n ≤ length piece.now) }
+        ensures some { result ≡ Ok 0 → piece.now ≡ [] }
+        ensures appended { IfOk result (λ n. Grows None None (take n piece.now)) }
+        ensures unchanged { OnErr result (Keeps None None) }
+        ensures failed { OnErr result (Rose 0 0) }
+        ensures never_falls { 0 ≤ 0 }
+
+        // It takes the whole piece, and counts it.
+        ensures taken { result ≡ Ok (length piece.now) }
+        ensures counted { self.new ≡ min (self.old + length piece.now) (2 ^ 128 - 1) }
+    {
         self.taken = self.taken.saturating_add(piece.len() as u128);
         Ok(piece.len())
     }

@@ -1,0 +1,15 @@
+use Rattle.std.proofs.Common.{refl}
+use Rattle.sh_tree.proofs.Fits.{plain_view, exact_view, double_view, param_view}
+use Rattle.sh_tree.proofs.printability.part_fits.Goals as goal
+
+pub returns-in-Plain : goal.returns-in-Plain
+returns-in-Plain c = rw (plain_view c.args.part.now c.in-Plain.text c.in-Plain.is) (rw c.bytes.ensures at c.plain_fits.ensures)
+
+pub returns-in-Exact : goal.returns-in-Exact
+returns-in-Exact c = rw (exact_view c.args.part.now c.in-Exact.text c.in-Exact.is) (rw c.bytes-in-Exact.ensures at c.all_in.ensures)
+
+pub returns-in-Double : goal.returns-in-Double
+returns-in-Double c = rw (double_view c.args.part.now c.in-Double.parts c.in-Double.is) (rw c.as_slice.ensures at c.quoted_printable.ensures)
+
+pub returns-in-Param : goal.returns-in-Param
+returns-in-Param c = rw (param_view c.args.part.now c.in-Param.param _ c.in-Param.is) refl
