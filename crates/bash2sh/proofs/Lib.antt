@@ -6,6 +6,7 @@ pub mod Loops
 mod Lowered
 mod Meaning
 mod Tools
+pub mod Trees
 mod Variables
 pub mod Views
 mod WordLaws
