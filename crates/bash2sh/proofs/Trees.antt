@@ -44,7 +44,7 @@ appended_lowered qs name v e = ap sh.parts_of e ∙ ap (λ (x : shape.Parts). sh
 
 -- ---- words
 
-words_from : List shape.Parts → shape.Words
+abbrev words_from : List shape.Parts → shape.Words
 words_from [] = shape.no_word
 words_from (w ∷ ws) = shape.word w (words_from ws)
 
@@ -61,7 +61,7 @@ words_lowered vs ws e = seen_words vs ∙ ap words_from e ∙ lowered_words ws
 
 -- ---- assignments
 
-assigns_from : List (List ℕ × shape.Value) → shape.Assigns
+abbrev assigns_from : List (List ℕ × shape.Value) → shape.Assigns
 assigns_from [] = shape.no_assign
 assigns_from (a ∷ more) = shape.assign a.0 a.1 (assigns_from more)
 
@@ -78,7 +78,7 @@ assigns_lowered bs as' e = seen_assigns bs ∙ ap assigns_from e ∙ lowered_ass
 
 -- ---- stages
 
-stages_from : List shape.Command → shape.Stages
+abbrev stages_from : List shape.Command → shape.Stages
 stages_from [] = shape.no_stage
 stages_from (c ∷ cs) = shape.stage c (stages_from cs)
 
@@ -95,7 +95,7 @@ stages_lowered ds cs e = seen_stages ds ∙ ap stages_from e ∙ lowered_stages 
 
 -- ---- links
 
-links_from : List (ShJoint × shape.Pipeline) → shape.Links
+abbrev links_from : List (ShJoint × shape.Pipeline) → shape.Links
 links_from [] = shape.no_link
 links_from (l ∷ ls) = sh.link_of l.0 l.1 (links_from ls)
 
@@ -116,7 +116,7 @@ links_lowered ks ls e = seen_links ks ∙ ap links_from e ∙ lowered_links ls
 
 -- ---- items
 
-items_from : List shape.Chain → shape.Script
+abbrev items_from : List shape.Chain → shape.Script
 items_from [] = shape.no_item
 items_from (c ∷ cs) = shape.item c (items_from cs)
 

@@ -31,7 +31,6 @@ fn name_param(alloc: Global, name: &bash_tree::Name) -> Result<sh_tree::PartKind
     })
 }
 
-#[tactic(auto, using(bash_tree::proofs::Views::param_is))]
 fn lower_param(alloc: Global, param: &bash_tree::Param) -> Result<sh_tree::PartKind, Memory>
     ensures { IfOk result (λ k. sh.view_kind k ≡ shape.param (bash.name_of_param param.now)) }
 {
@@ -124,17 +123,21 @@ fn lower_words(alloc: Global, words: &[bash_tree::Word]) -> Result<List<sh_tree:
 // ---- assignments
 
 /// A value without `+`.
-fn lower_plain_value(alloc: Global, value: &bash_tree::AssignValue) -> Result<sh_tree::AssignValue, Memory>
+fn lower_plain_value(
+    alloc: Global,
+    value: &bash_tree::AssignValue,
+) -> Result<sh_tree::AssignValue, Memory>
     ensures { IfOk result (λ v. sh.view_value v ≡ to_sh.plain_value (bash.view_value value.now)) }
 {
     match value {
         bash_tree::AssignValue::Word(None) => Ok(sh_tree::AssignValue::Word(None)),
-        bash_tree::AssignValue::Word(Some(word)) => Ok(sh_tree::AssignValue::Word(Some(lower_word(alloc, word)?))),
+        bash_tree::AssignValue::Word(Some(word)) => Ok(sh_tree::AssignValue::Word(Some(lower_word(
+            alloc, word,
+        )?))),
     }
 }
 
 /// `"$name"`
-#[tactic(auto, unfolding(crate::specs::Lower::quoted_name))]
 fn quoted_name(alloc: Global, name: &bash_tree::Name) -> Result<sh_tree::Part, Memory>
     ensures { IfOk result (λ p. sh.view_part p ≡ to_sh.quoted_name name.now.text) }
 {
@@ -144,7 +147,11 @@ fn quoted_name(alloc: Global, name: &bash_tree::Name) -> Result<sh_tree::Part, M
 }
 
 /// Puts the parts behind the others.
-fn push_parts(alloc: Global, parts: &[bash_tree::Part], into: &mut List<sh_tree::Part>) -> Result<(), Memory>
+fn push_parts(
+    alloc: Global,
+    parts: &[bash_tree::Part],
+    into: &mut List<sh_tree::Part>,
+) -> Result<(), Memory>
     ensures { OnOk result (map sh.view_part into.new ≡ map sh.view_part into.old ++ map part_lowered parts.now) }
 {
     for part in parts {
@@ -154,7 +161,11 @@ fn push_parts(alloc: Global, parts: &[bash_tree::Part], into: &mut List<sh_tree:
 }
 
 /// Puts the parts of a value behind the others.
-fn push_value(alloc: Global, value: &bash_tree::AssignValue, into: &mut List<sh_tree::Part>) -> Result<(), Memory>
+fn push_value(
+    alloc: Global,
+    value: &bash_tree::AssignValue,
+    into: &mut List<sh_tree::Part>,
+) -> Result<(), Memory>
     ensures { OnOk result (map sh.view_part into.new ≡ map sh.view_part into.old ++ value_parts_lowered value.now) }
 {
     match value {
@@ -203,7 +214,10 @@ fn lower_assign(alloc: Global, assign: &bash_tree::Assign) -> Result<sh_tree::As
     })
 }
 
-fn lower_assigns(alloc: Global, assigns: &[bash_tree::Assign]) -> Result<List<sh_tree::Assign>, Memory>
+fn lower_assigns(
+    alloc: Global,
+    assigns: &[bash_tree::Assign],
+) -> Result<List<sh_tree::Assign>, Memory>
     ensures { IfOk result (λ as'. map assign_seen as' ≡ map assign_lowered assigns.now) }
 {
     let mut lowered = List::new(alloc);
@@ -216,7 +230,10 @@ fn lower_assigns(alloc: Global, assigns: &[bash_tree::Assign]) -> Result<List<sh
 // ---- commands
 
 #[tactic(auto, using(crate::proofs::Trees::assigns_lowered, crate::proofs::Trees::words_lowered))]
-fn lower_simple(alloc: Global, kind: &bash_tree::CommandKind) -> Result<sh_tree::CommandKind, Memory>
+fn lower_simple(
+    alloc: Global,
+    kind: &bash_tree::CommandKind,
+) -> Result<sh_tree::CommandKind, Memory>
     ensures { IfOk result (λ k. sh.command_of k ≡ to_sh.lower_command (bash.command_of kind.now)) }
 {
     let bash_tree::CommandKind::Simple { assigns, words } = kind;
@@ -236,7 +253,10 @@ fn lower_command(alloc: Global, command: &bash_tree::Command) -> Result<sh_tree:
     })
 }
 
-fn lower_stages(alloc: Global, stages: &[bash_tree::Command]) -> Result<List<sh_tree::Command>, Memory>
+fn lower_stages(
+    alloc: Global,
+    stages: &[bash_tree::Command],
+) -> Result<List<sh_tree::Command>, Memory>
     ensures { IfOk result (λ cs. map command_seen cs ≡ map command_lowered stages.now) }
 {
     let mut lowered = List::new(alloc);
@@ -247,7 +267,10 @@ fn lower_stages(alloc: Global, stages: &[bash_tree::Command]) -> Result<List<sh_
 }
 
 #[tactic(auto, using(crate::proofs::Trees::stages_lowered))]
-fn lower_pipeline(alloc: Global, pipeline: &bash_tree::Pipeline) -> Result<sh_tree::Pipeline, Memory>
+fn lower_pipeline(
+    alloc: Global,
+    pipeline: &bash_tree::Pipeline,
+) -> Result<sh_tree::Pipeline, Memory>
     ensures { IfOk result (λ p. sh.view_pipeline p ≡ to_sh.lower_pipeline (bash.view_pipeline pipeline.now)) }
 {
     Ok(sh_tree::Pipeline {
@@ -267,14 +290,20 @@ fn lower_joint(joint: bash_tree::Joint) -> sh_tree::Joint
     }
 }
 
-fn lower_link(alloc: Global, link: &(bash_tree::Joint, bash_tree::Pipeline)) -> Result<(sh_tree::Joint, sh_tree::Pipeline), Memory>
+fn lower_link(
+    alloc: Global,
+    link: &(bash_tree::Joint, bash_tree::Pipeline),
+) -> Result<(sh_tree::Joint, sh_tree::Pipeline), Memory>
     ensures { IfOk result (λ l. link_seen l ≡ link_lowered link.now) }
 {
     let pipeline = lower_pipeline(alloc, &link.1)?;
     Ok((lower_joint(link.0), pipeline))
 }
 
-fn lower_links(alloc: Global, links: &[(bash_tree::Joint, bash_tree::Pipeline)]) -> Result<List<(sh_tree::Joint, sh_tree::Pipeline)>, Memory>
+fn lower_links(
+    alloc: Global,
+    links: &[(bash_tree::Joint, bash_tree::Pipeline)],
+) -> Result<List<(sh_tree::Joint, sh_tree::Pipeline)>, Memory>
     ensures { IfOk result (λ ls. map link_seen ls ≡ map link_lowered links.now) }
 {
     let mut lowered = List::new(alloc);
