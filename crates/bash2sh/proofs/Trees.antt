@@ -1,6 +1,6 @@
 -- A list of nodes that are lowered one by one is the list, lowered.
-use Rattle.std.proofs.Common.{◌≡◌, ℕ, List, [], ◌∷◌, refl, sym, ap, ◌∙◌}
-use Rattle.std.specs.Prelude.{map, Bool, true, false, Option, Some, None}
+use Rattle.std.proofs.Common.{◌≡◌, ℕ, List, [], ◌∷◌, refl, ap, ◌∙◌}
+use Rattle.std.specs.Prelude.{map, Option, Some, None}
 use Rattle.span_text.specs.declared.span.Span.{Span}
 use Rattle.bash_tree.specs.Shape as bash
 use Rattle.bash_tree.specs.declared.tree.Part.{Part}
@@ -13,7 +13,7 @@ use Rattle.bash_tree.specs.declared.tree.Pipeline.{Pipeline}
 use Rattle.bash_tree.specs.declared.tree.Joint.{Joint}
 use Rattle.bash_tree.specs.declared.tree.Joint.TheVariants.{And, Or}
 use Rattle.bash_tree.specs.declared.tree.Item.{Item}
-use Rattle.bash_tree.specs.View.{view_part, parts_of, words_of, view_word, view_value, assigns_of, stages_of, links_of, link_of, view_pipeline, items_of, item_of, view_chain, name_of_param}
+use Rattle.bash_tree.specs.View.{view_part, parts_of, words_of, view_value, assigns_of, stages_of, links_of, link_of, view_pipeline, items_of, item_of, view_chain}
 use Rattle.sh_tree.specs.Shape as shape
 use Rattle.sh_tree.specs.declared.tree.Part.{Part as ShPart}
 use Rattle.sh_tree.specs.declared.tree.Word.{Word as ShWord}
@@ -23,7 +23,7 @@ use Rattle.sh_tree.specs.declared.tree.Pipeline.{Pipeline as ShPipeline}
 use Rattle.sh_tree.specs.declared.tree.Joint.{Joint as ShJoint}
 use Rattle.sh_tree.specs.declared.tree.Item.{Item as ShItem}
 use Rattle.sh_tree.specs.View as sh
-use Rattle.bash2sh.specs.Lower.{lower_part, lower_parts, quoted_name, parts_of_value, lower_words, lower_assigns, lower_stages, lower_pipeline, lower_links, lower_chain, lower}
+use Rattle.bash2sh.specs.Lower.{lower_parts, quoted_name, parts_of_value, lower_words, lower_assigns, lower_stages, lower_pipeline, lower_links, lower_chain, lower}
 use Rattle.bash2sh.specs.Trees.{part_lowered, value_parts_lowered, word_lowered, assign_seen, assign_lowered, command_seen, command_lowered, joint_lowered, link_seen, link_lowered, item_seen, item_lowered}
 
 -- ---- parts
