@@ -7,6 +7,7 @@ mod Lowered
 mod Meaning
 pub mod Rest
 mod Tools
+pub mod Trees
 mod Variables
 pub mod Views
 mod WordLaws

@@ -3,4 +3,5 @@ pub mod Lower
 pub mod Model
 pub mod SameMeaning
 pub mod Spelling
+pub mod Trees
 pub mod Views

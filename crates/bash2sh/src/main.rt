@@ -5,6 +5,7 @@ mod commands;
 mod fault;
 mod form;
 mod lines;
+mod lowering;
 mod words;
 
 fn main() {}
