@@ -5,6 +5,7 @@ mod LineLaws
 pub mod Loops
 mod Lowered
 mod Meaning
+pub mod Printable
 mod Tools
 mod Variables
 pub mod Views
