@@ -1,16 +1,16 @@
 -- What a Bash text spells is translated to a script that can be printed.
-use Rattle.std.proofs.Common.{◌≡◌, ℕ, Bool, true, false, not, ◌&&◌, ◌||◌, List, [], ◌∷◌, ◌++◌, refl, sym, ap, subst, ◌∙◌, ◌⊎◌, inl, inr}
-use Rattle.std.specs.List.{list_all, slice_split}
+use Rattle.std.proofs.Common.{◌≡◌, ℕ, Bool, true, false, not, ◌&&◌, ◌||◌, List, [], ◌∷◌, ◌++◌, refl, sym, ap, subst, ◌∙◌, inl, inr}
+use Rattle.std.specs.List.{slice_split}
 use Rattle.std.proofs.lemmas.List.{append-nil}
 use Rattle.span_text.specs.Names.{begins_name, continues_name, is_name, is_reserved}
 use Rattle.span_text.specs.KnownNames.{is_builtin, is_refused_builtin, is_standard_word, is_bash_word, is_among, other_commands}
-use Rattle.span_text.specs.Scanning.{starts, Each, Run, is_newline, is_plain_byte, is_exact_byte, is_quoted_byte, ends_word}
+use Rattle.span_text.specs.Scanning.{starts, Run, is_newline, is_plain_byte, is_exact_byte, is_quoted_byte, ends_word}
 use Rattle.span_text.proofs.Bytes.{first_is_name}
-use Rattle.bash_tree.specs.Shape.{Part, plain, exact, double, param, Parts, no_part, part, Words, no_word, word, Value, no_value, value, Assigns, no_assign, assign, Command, simple, Script, no_item, item, background_item}
+use Rattle.bash_tree.specs.Shape.{plain, exact, double, param, Parts, no_part, part, Words, no_word, word, Value, no_value, value, no_assign, assign, Command, simple, Script, no_item, item, background_item}
 use Rattle.sh_tree.specs.Shape as sh
 use Rattle.sh_tree.specs.Spelling.{is_bare_keyword}
 use Rattle.sh_tree.specs.Printing.{is_something, begins_plain, goes_on_name, quoted_printable, parts_printable, word_printable, words_printable, value_printable, command_printable, script_printable}
-use Rattle.bash2sh.specs.Form.{is_free_command, literal_text, is_literal, name_form, words_form, command_form}
+use Rattle.bash2sh.specs.Form.{is_free_command, name_form, words_form, command_form}
 use Rattle.bash2sh.specs.Spelling.{QuotedPartsAt, PartsAt, WordAt, WordsAt, ValueAt, sign, CommandAt, LinesAt, Reads}
 use Rattle.bash2sh.specs.Lower.{lower_parts, lower_words, lower_value, lower_command, lower}
 use Rattle.bash2sh.proofs.Tools.{both, test_of}
