@@ -5,6 +5,7 @@ mod LineLaws
 pub mod Loops
 mod Lowered
 mod Meaning
+pub mod Printable
 pub mod Rest
 mod Tools
 pub mod Trees

@@ -1,0 +1,33 @@
+-- What a run of the program takes, writes and answers.
+use Rattle.std.specs.Prelude.{◌≡◌, ℕ, ◌+◌, ◌≤◌, List, [], ◌∷◌, ◌++◌, length, codes, decimal, Option, Some, None, Result, Ok, Err, ◌⊎◌}
+use Rattle.span_text.specs.Streams.{Rose, IsOver, Grows, Falls, Keeps}
+use Rattle.bash2sh.specs.declared.input.InputFault.{InputFault}
+use Rattle.bash2sh.specs.declared.input.InputFault.TheVariants as input
+
+-- how many bytes a script may have
+abbrev pub limit : ℕ
+limit = 1048576
+
+-- ---- what is read
+
+-- these bytes were taken from what was left, where that is told
+abbrev pub Took : Option (List ℕ) → Option (List ℕ) → List ℕ → Type 0
+Took None later taken = Unit {0}
+Took (Some left) later taken = (rest : List ℕ) × (left ≡ taken ++ rest) × (later ≡ Some rest)
+
+-- All that was left, within the limit; or a fault that was counted; or one byte more than the limit.
+abbrev pub GivesInput : Option (List ℕ) → Option (List ℕ) → ℕ → ℕ → Result (List ℕ) InputFault → Type 0
+GivesInput before later faults now (Ok text) = Took before later text × IsOver later × (length text ≤ limit) × (faults ≤ now)
+GivesInput before later faults now (Err input.Memory) = faults ≤ now
+GivesInput before later faults now (Err input.Failed) = Rose faults now
+GivesInput before later faults now (Err input.TooLong) = (taken : List ℕ) × Took before later taken × (length taken ≡ limit + 1) × (faults ≤ now)
+
+-- ---- what is said
+
+-- The line was put behind what was held; or, after a fault that was counted, a front of it that isn't all.
+abbrev pub Said : Option (List ℕ) → Option (List ℕ) → ℕ → ℕ → List ℕ → Type 0
+Said before later faults now line = (Grows before later line × (faults ≤ now)) ⊎ (Falls before later line × (faults ≤ now) × Rose faults now)
+
+-- `bash2sh: 2:1: not-yet`
+abbrev pub refused_line : ℕ → ℕ → List ℕ
+refused_line line column = codes "bash2sh: " ++ decimal line ++ 58 ∷ decimal column ++ codes ": not-yet\n"
