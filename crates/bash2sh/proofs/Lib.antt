@@ -8,6 +8,7 @@ mod Meaning
 pub mod Printable
 pub mod Rest
 mod Tools
+pub mod Translating
 pub mod Trees
 mod Variables
 pub mod Views

@@ -4,5 +4,6 @@ pub mod Lower
 pub mod Model
 pub mod SameMeaning
 pub mod Spelling
+pub mod Translation
 pub mod Trees
 pub mod Views

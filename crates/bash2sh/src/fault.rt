@@ -46,3 +46,13 @@ impl From<AllocError> for ReadFault {
         ReadFault::Memory
     }
 }
+
+/// Why a script was not translated.
+#[derive(Debug, Drop)]
+pub enum TranslateFault {
+    Memory,
+    /// The offset of the first line that is of no form that is taken, its blanks aside.
+    NotYet(usize),
+    /// The sink failed.
+    Output,
+}
