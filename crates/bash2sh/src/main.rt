@@ -6,6 +6,7 @@ mod fault;
 mod form;
 mod lines;
 mod lowering;
+mod messages;
 mod words;
 
 fn main() {}
