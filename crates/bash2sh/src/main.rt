@@ -4,8 +4,10 @@
 mod commands;
 mod fault;
 mod form;
+mod input;
 mod lines;
 mod lowering;
+mod messages;
 mod translate;
 mod words;
 

@@ -1,0 +1,81 @@
+//! The lines that the program says.
+
+ghost use Rattle.std.specs.Prelude.{◌∷◌, ◌++◌, codes, decimal};
+ghost use Rattle.span_text.specs.Streams.{Wrote};
+ghost use Rattle.bash2sh.specs.Answers.{Said, refused_line};
+
+use itoa::Buffer;
+use span_text::{Failed, Place, Sink, write_all};
+
+/// Writes a line; a failure leaves a front of it.
+pub fn say<E: Sink>(err: &mut E, line: &[u8])
+    ensures { Said (E.held err.old) (E.held err.new) (E.faults err.old) (E.faults err.new) line.now }
+{
+    let _ = write_all(err, line);
+}
+
+/// Says how the program is called.
+pub fn say_usage<E: Sink>(err: &mut E)
+    ensures { Said (E.held err.old) (E.held err.new) (E.faults err.old) (E.faults err.new) (codes "bash2sh: usage\n") }
+{
+    say(err, b"bash2sh: usage\n");
+}
+
+/// Says that the script could not be read.
+pub fn say_read_fault<E: Sink>(err: &mut E)
+    ensures { Said (E.held err.old) (E.held err.new) (E.faults err.old) (E.faults err.new) (codes "bash2sh: read fault\n") }
+{
+    say(err, b"bash2sh: read fault\n");
+}
+
+/// Says that the compiled script could not be written.
+pub fn say_write_fault<E: Sink>(err: &mut E)
+    ensures { Said (E.held err.old) (E.held err.new) (E.faults err.old) (E.faults err.new) (codes "bash2sh: write fault\n") }
+{
+    say(err, b"bash2sh: write fault\n");
+}
+
+/// Says that the script has too many bytes.
+pub fn say_too_long<E: Sink>(err: &mut E)
+    ensures { Said (E.held err.old) (E.held err.new) (E.faults err.old) (E.faults err.new) (codes "bash2sh: too long\n") }
+{
+    say(err, b"bash2sh: too long\n");
+}
+
+/// Says that there was too little memory.
+pub fn say_out_of_memory<E: Sink>(err: &mut E)
+    ensures { Said (E.held err.old) (E.held err.new) (E.faults err.old) (E.faults err.new) (codes "bash2sh: out of memory\n") }
+{
+    say(err, b"bash2sh: out of memory\n");
+}
+
+/// Writes the line that refuses a script at this place.
+pub fn say_refused<E: Sink>(err: &mut E, place: Place)
+    ensures { Said (E.held err.old) (E.held err.new) (E.faults err.old) (E.faults err.new) (refused_line place.line place.column) }
+{
+    let _ = write_refused(err, place);
+}
+
+fn write_refused<E: Sink>(err: &mut E, place: Place) -> Result<(), Failed>
+    ensures { Wrote (E.held err.old) (E.held err.new) (E.faults err.old) (E.faults err.new) result (refused_line place.line place.column) }
+{
+    write_all(err, b"bash2sh: ")?;
+    write_place(err, place)?;
+    write_all(err, b": not-yet\n")
+}
+
+/// `2:1`
+fn write_place<E: Sink>(err: &mut E, place: Place) -> Result<(), Failed>
+    ensures { Wrote (E.held err.old) (E.held err.new) (E.faults err.old) (E.faults err.new) result (decimal place.line ++ 58 ∷ decimal place.column) }
+{
+    write_number(err, place.line)?;
+    write_all(err, b":")?;
+    write_number(err, place.column)
+}
+
+fn write_number<E: Sink>(err: &mut E, n: u32) -> Result<(), Failed>
+    ensures { Wrote (E.held err.old) (E.held err.new) (E.faults err.old) (E.faults err.new) result (decimal n) }
+{
+    let mut buffer = Buffer::new();
+    write_all(err, buffer.format(n).as_bytes())
+}
