@@ -4,6 +4,7 @@
 mod commands;
 mod fault;
 mod form;
+mod input;
 mod lines;
 mod lowering;
 mod words;
