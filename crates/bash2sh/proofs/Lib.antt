@@ -1,6 +1,7 @@
 mod CommandLaws
 pub mod Cuts
 pub mod FormLaws
+pub mod Inputs
 mod LineLaws
 pub mod Loops
 mod Lowered

@@ -1,5 +1,6 @@
 pub mod Answers
 pub mod Form
+pub mod Input
 pub mod Lower
 pub mod Model
 pub mod SameMeaning
