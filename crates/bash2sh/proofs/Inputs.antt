@@ -5,8 +5,8 @@ use Rattle.span_text.specs.Streams.{Moved, IsOver}
 use Rattle.span_text.proofs.Writes.{Rose-from}
 use Rattle.bash2sh.specs.declared.input.InputFault.{InputFault}
 use Rattle.bash2sh.specs.declared.input.InputFault.TheVariants as input
-use Rattle.bash2sh.specs.Answers.{Took, GivesInput}
-use Rattle.bash2sh.specs.Input.{Over, Piece, Reads, TakesInput}
+use Rattle.bash2sh.specs.Answers.{Took, Over, GivesInput}
+use Rattle.bash2sh.specs.Input.{Piece, Reads}
 
 pub Took-none : (o : Option (List ℕ)) → Took o o []
 Took-none None = tt
@@ -75,25 +75,17 @@ SoFar-less b c j k held text room n some le p =
     let long = Piece-length b c j k held text room n p in
     omega (arith, long, le, p.within, some)
 
-pub SoFar-done : (a b c : Option (List ℕ)) (i j k : ℕ) (held text : List ℕ) (room n : ℕ) → SoFar a b i j held → length held ≤ 1048576 → 0 < room → n ≡ 0 → Piece b c j k held text room n → TakesInput a c i k (Ok text)
+pub SoFar-done : (a b c : Option (List ℕ)) (i j k : ℕ) (held text : List ℕ) (room n : ℕ) → SoFar a b i j held → length held ≤ 1048576 → 0 < room → n ≡ 0 → Piece b c j k held text room n → GivesInput a c i k (Ok text)
 SoFar-done a b c i j k held text room n s le some zero p =
     let long = Piece-length b c j k held text room n p in
     (took_more a b c i j k held text room n s p, Over-then a b c held s.took (p.ends zero some), omega (arith, long, le, zero), omega (arith, s.never_falls, p.never_falls))
 
-pub SoFar-fails : (a b c : Option (List ℕ)) (i j k : ℕ) (held text : List ℕ) (room : ℕ) (e : InputFault) → SoFar a b i j held → Reads b c j k held text room (Err e) → TakesInput a c i k (Err e)
+pub SoFar-fails : (a b c : Option (List ℕ)) (i j k : ℕ) (held text : List ℕ) (room : ℕ) (e : InputFault) → SoFar a b i j held → Reads b c j k held text room (Err e) → GivesInput a c i k (Err e)
 SoFar-fails a b c i j k held text room input.Memory s r = omega (arith, s.never_falls, r)
 SoFar-fails a b c i j k held text room input.Failed s r = Rose-from i j k s.never_falls r
 SoFar-fails a b c i j k held text room input.TooLong s r = absurd r
 
-pub SoFar-long : (a b : Option (List ℕ)) (i j : ℕ) (text : List ℕ) → SoFar a b i j text → 1048576 < length text → TakesInput a b i j (Err input.TooLong)
+pub SoFar-long : (a b : Option (List ℕ)) (i j : ℕ) (text : List ℕ) → SoFar a b i j text → 1048576 < length text → GivesInput a b i j (Err input.TooLong)
 SoFar-long a b i j text s lt = (text, s.took, omega (arith, s.fits, lt), s.never_falls)
 
 -- ---- what all reads give, where it is told what was left
-
-over_now : (a b : Option (List ℕ)) → Over a b → (a ≡ None → IsOver b) → IsOver b
-over_now None b over untold = untold refl
-over_now (Some left) b over untold = subst IsOver (sym over) refl
-
-pub gives_input : (a b : Option (List ℕ)) (i j : ℕ) (r : Result (List ℕ) InputFault) → (a ≡ None → IsOver b) → TakesInput a b i j r → GivesInput a b i j r
-gives_input a b i j (Ok text) untold t = (t.0, over_now a b t.1 untold, t.2, t.3)
-gives_input a b i j (Err e) untold t = t

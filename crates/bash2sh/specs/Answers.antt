@@ -1,6 +1,6 @@
 -- What a run of the program takes, writes and answers.
 use Rattle.std.specs.Prelude.{◌≡◌, ℕ, ◌+◌, ◌≤◌, List, [], ◌∷◌, ◌++◌, length, codes, decimal, Option, Some, None, Result, Ok, Err, ◌⊎◌}
-use Rattle.span_text.specs.Streams.{Rose, IsOver, Grows, Falls, Keeps}
+use Rattle.span_text.specs.Streams.{Rose, Grows, Falls}
 use Rattle.bash2sh.specs.declared.input.InputFault.{InputFault}
 use Rattle.bash2sh.specs.declared.input.InputFault.TheVariants as input
 
@@ -15,9 +15,14 @@ abbrev pub Took : Option (List ℕ) → Option (List ℕ) → List ℕ → Type 
 Took None later taken = Unit {0}
 Took (Some left) later taken = (rest : List ℕ) × (left ≡ taken ++ rest) × (later ≡ Some rest)
 
+-- nothing is left, where what was left was told
+abbrev pub Over : Option (List ℕ) → Option (List ℕ) → Type 0
+Over None later = Unit {0}
+Over (Some left) later = later ≡ Some []
+
 -- All that was left, within the limit; or a fault that was counted; or one byte more than the limit.
 abbrev pub GivesInput : Option (List ℕ) → Option (List ℕ) → ℕ → ℕ → Result (List ℕ) InputFault → Type 0
-GivesInput before later faults now (Ok text) = Took before later text × IsOver later × (length text ≤ limit) × (faults ≤ now)
+GivesInput before later faults now (Ok text) = Took before later text × Over before later × (length text ≤ limit) × (faults ≤ now)
 GivesInput before later faults now (Err input.Memory) = faults ≤ now
 GivesInput before later faults now (Err input.Failed) = Rose faults now
 GivesInput before later faults now (Err input.TooLong) = (taken : List ℕ) × Took before later taken × (length taken ≡ limit + 1) × (faults ≤ now)

@@ -1,14 +1,9 @@
--- What one read puts behind a text, and what all of them give.
+-- What one read puts behind a text.
 use Rattle.std.specs.Prelude.{◌≡◌, ℕ, ◌≤◌, ◌<◌, List, [], ◌++◌, length, Option, Some, None, Result, Ok, Err}
 use Rattle.span_text.specs.Streams.{Rose}
 use Rattle.bash2sh.specs.declared.input.InputFault.{InputFault}
 use Rattle.bash2sh.specs.declared.input.InputFault.TheVariants as input
-use Rattle.bash2sh.specs.Answers.{limit, Took, GivesInput}
-
--- nothing is left, where it was told what was
-abbrev pub Over : Option (List ℕ) → Option (List ℕ) → Type 0
-Over None later = Unit {0}
-Over (Some left) later = later ≡ Some []
+use Rattle.bash2sh.specs.Answers.{Took, Over}
 
 -- n bytes were taken and put behind what was held; where there was room, none only at the end
 pub record Piece (before later : Option (List ℕ)) (faults now : ℕ) (held text : List ℕ) (room n : ℕ) : Type 0 where
@@ -25,8 +20,3 @@ Reads before later faults now held text room (Ok n) = Piece before later faults 
 Reads before later faults now held text room (Err input.Memory) = faults ≤ now
 Reads before later faults now held text room (Err input.Failed) = Rose faults now
 Reads before later faults now held text room (Err input.TooLong) = ⊥
-
--- All that was left, where it was told, within the limit; else a fault, as `GivesInput` has it.
-abbrev pub TakesInput : Option (List ℕ) → Option (List ℕ) → ℕ → ℕ → Result (List ℕ) InputFault → Type 0
-TakesInput before later faults now (Ok text) = Took before later text × Over before later × (length text ≤ limit) × (faults ≤ now)
-TakesInput before later faults now (Err e) = GivesInput before later faults now (Err e)

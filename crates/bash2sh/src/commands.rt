@@ -69,7 +69,6 @@ fn assign_of(
     let mut assigns = List::new(alloc);
     assigns.push(Assign {
         name,
-        sub: None,
         append,
         value: AssignValue::Word(value),
         span: place,

@@ -2,7 +2,8 @@
 
 ghost use Rattle.std.specs.Prelude.{◌≡◌, length};
 ghost use Rattle.bash2sh.specs.declared.input.InputFault.TheVariants as input;
-ghost use Rattle.bash2sh.specs.Input.{Reads, TakesInput};
+ghost use Rattle.bash2sh.specs.Answers.{GivesInput};
+ghost use Rattle.bash2sh.specs.Input.{Reads};
 
 use span_text::{Failed, Memory, Source, Text};
 use std::alloc::{AllocError, Global};
@@ -63,7 +64,7 @@ fn read_some<S: Source>(
 
 /// All bytes of the source, at most `LIMIT`.
 pub fn read_all<S: Source>(alloc: Global, source: &mut S) -> Result<Text, InputFault>
-    ensures { TakesInput (S.left source.old) (S.left source.new) (S.faults source.old) (S.faults source.new) result }
+    ensures { GivesInput (S.left source.old) (S.left source.new) (S.faults source.old) (S.faults source.new) result }
 {
     let mut buffer = [0u8; PIECE];
     let mut text = Text::new(alloc);

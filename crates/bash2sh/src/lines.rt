@@ -78,7 +78,6 @@ fn item(alloc: Global, kind: CommandKind, span: Span) -> Result<Item, Memory>
     let mut stages = List::new(alloc);
     stages.push(Command {
         kind,
-        redirects: List::new(alloc),
         span,
     })?;
     let first = Pipeline {

@@ -248,7 +248,6 @@ fn lower_command(alloc: Global, command: &bash_tree::Command) -> Result<sh_tree:
 {
     Ok(sh_tree::Command {
         kind: lower_simple(alloc, &command.kind)?,
-        redirects: List::new(alloc),
         span: command.span,
     })
 }

@@ -5,5 +5,5 @@ mod tree;
 
 pub use tree::{
     AndOr, Assign, AssignValue, Command, CommandKind, Item, Joint, Name, Param, ParamOp, Part,
-    PartKind, Pipeline, Redirect, Script, Subscript, Word,
+    PartKind, Pipeline, Script, Word,
 };

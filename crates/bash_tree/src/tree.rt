@@ -40,11 +40,10 @@ pub struct Pipeline {
     pub both: List<bool>,
 }
 
-/// A command with its redirections.
+/// A command.
 #[derive(Debug, PartialEq, Drop)]
 pub struct Command {
     pub kind: CommandKind,
-    pub redirects: List<Redirect>,
     pub span: Span,
 }
 
@@ -78,23 +77,14 @@ impl CommandKind {
     }
 }
 
-/// A redirection. No form of it is read yet.
-#[derive(Debug, PartialEq, Drop)]
-pub enum Redirect {}
-
 /// `name=value` or `name+=value`.
 #[derive(Debug, PartialEq, Drop)]
 pub struct Assign {
     pub name: Name,
-    pub sub: Option<Subscript>,
     pub append: bool,
     pub value: AssignValue,
     pub span: Span,
 }
-
-/// The subscript of an array's member. No form of it is read yet.
-#[derive(Debug, PartialEq, Drop)]
-pub enum Subscript {}
 
 #[derive(Debug, PartialEq, Drop)]
 pub enum AssignValue {

@@ -9,7 +9,7 @@ pub use printability::printable;
 pub use printer::print;
 pub use tree::{
     AndOr, Assign, AssignValue, Command, CommandKind, Item, Joint, Name, Param, ParamOp, Part,
-    PartKind, Pipeline, Redirect, Script, Word,
+    PartKind, Pipeline, Script, Word,
 };
 
 #[cfg(test)]

@@ -62,7 +62,6 @@ fn command(assigns: List<Assign>, words: List<Word>, alloc: Global) -> Command {
     let kind = CommandKind::Simple { assigns, words };
     Command {
         kind,
-        redirects: List::new(alloc),
         span: NOWHERE,
     }
 }

@@ -37,11 +37,10 @@ pub struct Pipeline {
     pub stages: List<Command>,
 }
 
-/// A command with its redirections.
+/// A command.
 #[derive(Debug, PartialEq, Drop)]
 pub struct Command {
     pub kind: CommandKind,
-    pub redirects: List<Redirect>,
     pub span: Span,
 }
 
@@ -74,10 +73,6 @@ impl CommandKind {
         words.as_slice()
     }
 }
-
-/// A redirection. No form of it is read yet.
-#[derive(Debug, PartialEq, Drop)]
-pub enum Redirect {}
 
 /// `name=value`.
 #[derive(Debug, PartialEq, Drop)]
