@@ -76,10 +76,7 @@ fn item(alloc: Global, kind: CommandKind, span: Span) -> Result<Item, Memory>
     ensures { IfOk result (λ i. items_of (i ∷ []) ≡ shape.item (alone (command_of kind)) shape.no_item) }
 {
     let mut stages = List::new(alloc);
-    stages.push(Command {
-        kind,
-        span,
-    })?;
+    stages.push(Command { kind, span })?;
     let first = Pipeline {
         negated: false,
         stages,
