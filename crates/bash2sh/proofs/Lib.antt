@@ -1,5 +1,6 @@
 mod CommandLaws
 pub mod Cuts
+pub mod Ending
 pub mod FormLaws
 pub mod Inputs
 mod LineLaws

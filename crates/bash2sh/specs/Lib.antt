@@ -3,6 +3,7 @@ pub mod Form
 pub mod Input
 pub mod Lower
 pub mod Model
+pub mod Program
 pub mod SameMeaning
 pub mod Spelling
 pub mod Translation

@@ -1,4 +1,8 @@
-use super::*;
+use crate::fault::TranslateFault;
+use crate::input::read_all;
+use crate::messages::say_refused;
+use crate::program::{Status, bash2sh};
+use crate::translator::translate;
 use span_text::{List, Memory, MemorySink, MemorySource, Place, Text};
 use std::alloc::Global;
 use std::test::Fail;
@@ -44,5 +48,52 @@ fn a_refusal_names_its_line_and_column(rt: HostRuntime) -> Result<(), Fail> {
     let mut err = sink(rt.alloc())?;
     say_refused(&mut err, Place { line: 2, column: 3 });
     assert_eq!(rt; err.held(), b"bash2sh: 2:3: not-yet\n".as_slice());
+    Ok(())
+}
+
+fn asked(alloc: Global, word: &str) -> Result<Vec<String>, Fail> {
+    let mut words = Vec::new(alloc);
+    words.push(String::from_str(alloc, word)?)?;
+    Ok(words)
+}
+
+#[test]
+fn a_refused_script_is_answered_on_standard_error(rt: HostRuntime) -> Result<(), Fail> {
+    let mut source = MemorySource::new(
+        Text::copy(rt.alloc(), b"x=1\nshow $x\n")?,
+        5,
+        List::new(rt.alloc()),
+    );
+    let mut out = sink(rt.alloc())?;
+    let mut err = sink(rt.alloc())?;
+    let asked = asked(rt.alloc(), "translate")?;
+    let status = bash2sh(
+        rt.alloc(),
+        asked.as_slice(),
+        &mut source,
+        &mut out,
+        &mut err,
+    );
+    assert_eq!(rt; status, Status::Refused);
+    assert_eq!(rt; out.held(), b"".as_slice());
+    assert_eq!(rt; err.held(), b"bash2sh: 2:1: not-yet\n".as_slice());
+    Ok(())
+}
+
+#[test]
+fn another_word_is_answered_by_the_usage(rt: HostRuntime) -> Result<(), Fail> {
+    let mut source = MemorySource::new(Text::copy(rt.alloc(), b"x=1\n")?, 5, List::new(rt.alloc()));
+    let mut out = sink(rt.alloc())?;
+    let mut err = sink(rt.alloc())?;
+    let asked = asked(rt.alloc(), "translat")?;
+    let status = bash2sh(
+        rt.alloc(),
+        asked.as_slice(),
+        &mut source,
+        &mut out,
+        &mut err,
+    );
+    assert_eq!(rt; status, Status::Usage);
+    assert_eq!(rt; err.held(), b"bash2sh: usage\n".as_slice());
     Ok(())
 }

@@ -3,7 +3,7 @@ use Rattle.bash_tree.specs.View as bash
 use Rattle.sh_tree.specs.View as sh
 use Rattle.sh_tree.specs.Printing.{script_text}
 use Rattle.bash2sh.proofs.Translating.{can_print, is_translated}
-use Rattle.bash2sh.proofs.translate.translate.Goals as goal
+use Rattle.bash2sh.proofs.translator.translate.Goals as goal
 
 pub print-requires : goal.print-requires
 print-requires g c = can_print c.args.text.now (bash.view c.in-Ok.script) (sh.view c.in-Ok-lower.lowered) c.in-Ok.ensures.found c.in-Ok-lower.ensures
