@@ -6,4 +6,4 @@
 
 mod world;
 
-pub use world::{Answer, Bounds, Call, Latitude, Row, RowInput, RowKey, World};
+pub use world::{Answer, Bounds, Call, End, Latitude, Report, Row, RowInput, RowKey, World};

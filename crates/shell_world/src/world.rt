@@ -84,3 +84,29 @@ pub struct Call {
     /// The index of the row that answered.
     pub row: Option<usize>,
 }
+
+/// How a run ends.
+#[derive(Clone, Copy, Debug, PartialEq, Eq)]
+pub enum End {
+    /// With this status.
+    Ended(u8),
+    /// It goes on beyond its bounds.
+    GoesOn,
+    /// The standard, or the profile of it, doesn't say what comes.
+    Unspecified,
+}
+
+/// What a run did.
+#[derive(Debug, PartialEq, Drop)]
+pub struct Report {
+    pub end: End,
+    /// The external commands that were called, in their order.
+    pub calls: List<Call>,
+    /// What was written on standard output, and on standard error.
+    pub out: Text,
+    pub err: Text,
+    /// The files in the order of the bytes of their paths, where the run ended.
+    pub files: Option<List<(Text, Text)>>,
+    /// The turns that were used.
+    pub turns: u32,
+}
