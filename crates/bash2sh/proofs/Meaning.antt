@@ -23,10 +23,10 @@ use Rattle.bash2sh.proofs.Lowered.{Agrees, Both, script_does}
 
 out_later : {S : Type 0} (f : S → ℕ) (n m : ℕ) (o o' : Res Signal S) → Later n m o o' → OutLater (outcome f o) (outcome f o')
 out_later f n m (Ends g s r) o' h = ap (outcome f) h.1
-out_later f n m (GoesOn w) (Ends g s r) h = h
-out_later f n m (GoesOn w) (GoesOn v) h = h
-out_later f n m (GoesOn w) (Unspecified v) h = h
-out_later f n m (Unspecified w) o' h = ap (outcome f) h
+out_later f n m (GoesOn w x) (Ends g s r) h = h
+out_later f n m (GoesOn w x) (GoesOn v r) h = h
+out_later f n m (GoesOn w x) (Unspecified v r) h = h
+out_later f n m (Unspecified w x) o' h = ap (outcome f) h.1
 
 abbrev bash_status : bash.Own → ℕ
 bash_status o = o.status
@@ -43,8 +43,8 @@ out_matches n (Ends g a r) run q e m =
     let ag = m.holds in
     let f : outcome sh_status (run y.0 y.0 y.0) ≡ Ended m.end.trace m.end.outside.files m.end.own.status = ap (outcome sh_status) (y.2 y.0 y.0 (omega arith) (omega arith)) in
     (y.0, e y.0 ∙ f ∙ same_end a.trace m.end.trace a.outside.files m.end.outside.files a.own.status m.end.own.status ag.trace (ap (λ o. o.files) ag.outside) ag.own.status)
-out_matches n (GoesOn w) run q e m = (m.turns, m.enough, e m.turns ∙ ap (outcome sh_status) (m.by m.turns m.turns (omega arith) (omega arith)))
-out_matches n (Unspecified w) run q e m = m
+out_matches n (GoesOn w r) run q e m = (m.turns, m.enough, e m.turns ∙ ap (outcome sh_status) (m.by m.turns m.turns (omega arith) (omega arith)))
+out_matches n (Unspecified w r) run q e m = m
 
 module _ (script : Script) (form : script_form script ≡ true) (world : World) where
   bash_grows : Grows (bash.run world script)

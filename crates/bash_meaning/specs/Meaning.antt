@@ -134,7 +134,7 @@ script_run world call (background_item c more) n s = unbuilt n s
 
 -- a function's run, at most d levels deep
 abbrev pub level : World → ℕ → Calls Command Own
-level world zero body n s = GoesOn s.trace
+level world zero body n s = GoesOn s.trace n
 level world (suc d) body n s = command_run world (level world d) body n s
 
 -- ---- whole runs

@@ -1,4 +1,5 @@
 pub mod Between
+pub mod Maps
 pub mod Monotone
 pub mod Records
 pub mod Simulate

@@ -19,14 +19,14 @@ prefix_trans u v w p q = record {
 
 abbrev pub res_trace : {X S : Type 0} → Res X S → Trace
 res_trace (Ends g s n) = s.trace
-res_trace (GoesOn w) = w
-res_trace (Unspecified w) = w
+res_trace (GoesOn w r) = w
+res_trace (Unspecified w r) = w
 
 -- what a result with n turns says of one with m
 abbrev pub Later : {X S : Type 0} → ℕ → ℕ → Res X S → Res X S → Type 0
 Later n m (Ends g s r) o = (q : ℕ) × (o ≡ Ends g s q) × (r + m ≡ q + n)
-Later n m (GoesOn w) o = IsPrefix w (res_trace o)
-Later n m (Unspecified w) o = o ≡ Unspecified w
+Later n m (GoesOn w r) o = IsPrefix w (res_trace o)
+Later n m (Unspecified w r) o = (q : ℕ) × (o ≡ Unspecified w q)
 
 pub record Under {X S : Type 0} (c c' : Do X S) : Type 0 where
   pub later : (n m : ℕ) (s : St S) → n ≤ m → Later n m (c n s) (c' m s)
@@ -34,20 +34,20 @@ pub record Under {X S : Type 0} (c c' : Do X S) : Type 0 where
 
 after_grows : {X Y S : Type 0} (w : Trace) (o : Res X S) (k : X → Do Y S) → IsPrefix w (res_trace o) → ((x : X) (m : ℕ) (s : St S) → IsPrefix s.trace (res_trace (k x m s))) → IsPrefix w (res_trace (after o k))
 after_grows w (Ends g s n) k p h = prefix_trans w s.trace _ p (h g n s)
-after_grows w (GoesOn v) k p h = p
-after_grows w (Unspecified v) k p h = p
+after_grows w (GoesOn v r) k p h = p
+after_grows w (Unspecified v r) k p h = p
 
 later_shift : {X S : Type 0} (n m r q : ℕ) (o o' : Res X S) → r + m ≡ q + n → Later r q o o' → Later n m o o'
 later_shift n m r q (Ends g s x) o' e h = (h.0, h.1, omega (arith, h.2, e))
-later_shift n m r q (GoesOn w) o' e h = h
-later_shift n m r q (Unspecified w) o' e h = h
+later_shift n m r q (GoesOn w x) o' e h = h
+later_shift n m r q (Unspecified w x) o' e h = h
 
 later_after : {X Y S : Type 0} (n m : ℕ) (o o' : Res X S) (k k' : X → Do Y S) → n ≤ m → Later n m o o' → ((x : X) → Under (k x) (k' x)) → Later n m (after o k) (after o' k')
 later_after n m (Ends g s r) o' k k' le h u =
     let e : after o' k' ≡ k' g h.0 s = ap (λ x. after x k') h.1 in
     subst (λ x. Later n m (k g r s) x) (sym e) (later_shift n m r h.0 (k g r s) (k' g h.0 s) h.2 ((u g).later r h.0 s (omega (arith, h.2, le))))
-later_after n m (GoesOn w) o' k k' le h u = after_grows w o' k' h (λ g. (u g).grows)
-later_after n m (Unspecified w) o' k k' le h u = ap (λ x. after x k') h
+later_after n m (GoesOn w r) o' k k' le h u = after_grows w o' k' h (λ g. (u g).grows)
+later_after n m (Unspecified w r) o' k k' le h u = (h.0, ap (λ x. after x k') h.1)
 
 -- the same for each way to build a run; what follows may read the state before
 pub under_from : {X Y S : Type 0} (c c' : Do X S) (k k' : St S → X → Do Y S) → Under c c' → ((s : St S) (x : X) → Under (k s x) (k' s x)) → Under (λ n s. after (c n s) (k s)) (λ n s. after (c' n s) (k' s))
@@ -71,8 +71,8 @@ under_own x f = under_ends (λ s. x s.own) (λ s. with_own s (f s.own)) (λ s. p
 pub under_keep : {X S : Type 0} (x : S → X) → Under {S = S} (λ n s. Ends (x s.own) s n) (λ n s. Ends (x s.own) s n)
 under_keep x = under_ends (λ s. x s.own) (λ s. s) (λ s. prefix_refl s.trace)
 
-pub under_unspecified : {X S : Type 0} → Under {X = X} {S = S} (λ n s. Unspecified s.trace) (λ n s. Unspecified s.trace)
-under_unspecified = record { later = λ n m s le. refl; grows = λ m s. prefix_refl s.trace }
+pub under_unspecified : {X S : Type 0} → Under {X = X} {S = S} (λ n s. Unspecified s.trace n) (λ n s. Unspecified s.trace n)
+under_unspecified = record { later = λ n m s le. (m, refl); grows = λ m s. prefix_refl s.trace }
 
 pub under_if_normal : {S : Type 0} (k k' : Do Signal S) → Under k k' → (g : Signal) → Under (if_normal k g) (if_normal k' g)
 under_if_normal k k' u Normal = u
@@ -87,7 +87,7 @@ under_with_value k k' u (Value x) = u x
 under_with_value k k' u Fails = under_keep (λ o. Exits)
 
 -- a run that stops short of whatever goes on
-pub under_stop : {X S : Type 0} (c' : Do X S) → ((m : ℕ) (s : St S) → IsPrefix s.trace (res_trace (c' m s))) → Under (λ n s. GoesOn s.trace) c'
+pub under_stop : {X S : Type 0} (c' : Do X S) → ((m : ℕ) (s : St S) → IsPrefix s.trace (res_trace (c' m s))) → Under (λ n s. GoesOn s.trace n) c'
 under_stop c' h = record { later = λ n m s le. h m s; grows = h }
 
 pub under_choose : {X S : Type 0} (b : Bool) (x x' y y' : Do X S) → Under x x' → Under y y' → Under (choose b x y) (choose b x' y')

@@ -12,8 +12,8 @@ pub data Outcome : Type 0 where
 
 abbrev pub outcome : {S : Type 0} → (S → ℕ) → Res Signal S → Outcome
 outcome status (Ends signal s left) = Ended s.trace s.outside.files (status s.own)
-outcome status (GoesOn t) = Going t
-outcome status (Unspecified t) = Unknown t
+outcome status (GoesOn t left) = Going t
+outcome status (Unspecified t left) = Unknown t
 
 abbrev pub trace_of : Outcome → Trace
 trace_of (Ended t files status) = t

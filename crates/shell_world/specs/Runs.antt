@@ -18,11 +18,11 @@ pub record St (S : Type 0) : Type 0 where
   pub outside : Outside
   pub own : S
 
--- it ends with a result, a state and the turns that are left, or goes on with the record so far, or nothing says what it does
+-- It ends with a result and a state, or goes on with the record so far, or nothing says what it does. The number is that of the turns that are left.
 pub data Res (X S : Type 0) : Type 0 where
   Ends : X → St S → ℕ → Res X S
-  GoesOn : Trace → Res X S
-  Unspecified : Trace → Res X S
+  GoesOn : Trace → ℕ → Res X S
+  Unspecified : Trace → ℕ → Res X S
 
 -- from the turns that are left and a state
 abbrev pub Do : Type 0 → Type 0 → Type 0
@@ -31,8 +31,8 @@ Do X S = ℕ → St S → Res X S
 -- goes on with what the result, the turns left and the state say
 abbrev pub after : {X Y S : Type 0} → Res X S → (X → Do Y S) → Res Y S
 after (Ends x s n) k = k x n s
-after (GoesOn t) k = GoesOn t
-after (Unspecified t) k = Unspecified t
+after (GoesOn t n) k = GoesOn t n
+after (Unspecified t n) k = Unspecified t n
 
 -- the next command
 abbrev pub if_normal : {S : Type 0} → Do Signal S → Signal → Do Signal S
@@ -66,7 +66,7 @@ gives f n s = Ends (Value (f s.own)) s n
 
 -- a form that no definition gives a meaning yet
 abbrev pub unbuilt : {X S : Type 0} → Do X S
-unbuilt n s = Unspecified s.trace
+unbuilt n s = Unspecified s.trace n
 
 -- what a call of a function means whose body is given
 abbrev pub Calls : Type 0 → Type 0 → Type 0

@@ -1,7 +1,7 @@
 -- Maps whose keys are texts, kept in the order of their keys, and a few words on lists.
-use Rattle.std.specs.Prelude.{ℕ, zero, suc, Bool, List, [], ◌∷◌, Option, Some, None}
+use Rattle.std.specs.Prelude.{ℕ, zero, suc, Bool, false, List, [], ◌∷◌, Option, Some, None}
 use Rattle.std.specs.declared.cmp.Ordering.{Ordering}
-use Rattle.std.specs.Ordering.{nat_cmp}
+use Rattle.std.specs.Ordering.{nat_cmp, is_eq, is_gt}
 use Rattle.std.specs.Cmp.Lexicographic.{slice_cmp}
 use Rattle.std.specs.FinMap.{find, put}
 
@@ -11,6 +11,10 @@ Text = List ℕ
 -- the order of bytes
 abbrev pub text_cmp : Text → Text → Ordering
 text_cmp = slice_cmp nat_cmp
+
+-- whether the second text stands before the first
+abbrev pub is_below : Text → Text → Bool
+is_below key text = is_gt (text_cmp key text)
 
 -- a finite map from texts, as its entries in the order of their keys
 abbrev pub Map : Type 0 → Type 0
@@ -42,3 +46,8 @@ with_nth (suc n) y (x ∷ xs) = x ∷ with_nth n y xs
 abbrev pub text_or_none : Option Text → Text
 text_or_none None = []
 text_or_none (Some t) = t
+
+-- whether the first entry is at this key
+abbrev pub first_is : {X : Type 0} → Text → Map X → Bool
+first_is key [] = false
+first_is key (e ∷ es) = is_eq (text_cmp key e.0)

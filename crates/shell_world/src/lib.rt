@@ -4,6 +4,8 @@
 //! `specs/Outside` what is done through descriptors, `specs/Calls` the table of external commands.
 #![tactic(auto)]
 
+mod text_map;
 mod world;
 
+pub use text_map::TextMap;
 pub use world::{Answer, Bounds, Call, End, Latitude, Report, Row, RowInput, RowKey, World};
