@@ -10,8 +10,8 @@ use Rattle.shell_world.specs.declared.world.RowKey.{RowKey}
 use Rattle.shell_world.specs.declared.world.RowKey.TheVariants.{Whole, Name}
 use Rattle.shell_world.specs.declared.world.RowInput.{RowInput}
 use Rattle.shell_world.specs.declared.world.RowInput.TheVariants.{Nothing, Any, Exactly}
-use Rattle.shell_world.specs.Texts.{Text}
-use Rattle.shell_world.specs.Outside.{Trace, Outside, Fds, open_at, unread, drained, written}
+use Rattle.shell_world.specs.Texts.{Text, nth}
+use Rattle.shell_world.specs.Outside.{Trace, Outside, Fds, open_at, index_at, unread, drained_at, written}
 
 abbrev pub is_called : Text → List Text → Bool
 is_called name [] = false
@@ -61,10 +61,14 @@ taken_by Nothing input = None
 taken_by Any input = Some input
 taken_by (Exactly text) input = Some input
 
+abbrev pub input_after_at : RowInput → Option ℕ → Outside → Outside
+input_after_at Nothing i o = o
+input_after_at Any i o = drained_at i o
+input_after_at (Exactly text) i o = drained_at i o
+
+-- the same through descriptor 0
 abbrev pub input_after : RowInput → Fds → Outside → Outside
-input_after Nothing fds o = o
-input_after Any fds o = drained 0 fds o
-input_after (Exactly text) fds o = drained 0 fds o
+input_after rule fds o = input_after_at rule (index_at (nth 0 fds)) o
 
 abbrev pub recorded : List Text → List (Text × Text) → Option Text → Option ℕ → Trace → Trace
 recorded argv env input row t = record t { calls = t.calls ++ record { argv = argv; env = env; input = input; row = row } ∷ [] }
@@ -82,13 +86,21 @@ ended_with status x = record { status = status; trace = x.0; outside = x.1 }
 abbrev pub answered : Answer → Fds → Trace × Outside → Called
 answered a fds x = ended_with a.status (written 2 fds a.err (written 1 fds a.out x))
 
+-- by the row of this index
+abbrev pub row_called : ℕ → Row → List Text → List (Text × Text) → Fds → Text → Trace → Outside → Called
+row_called k row argv env fds input t o =
+    answered (answer_at (times k t.calls) row.answers) fds (recorded argv env (taken_by row.input input) (Some k) t, input_after row.input fds o)
+
 abbrev pub answered_by : Option (ℕ × Row) → List Text → List (Text × Text) → Fds → Text → Trace → Outside → Called
 answered_by None argv env fds input t o = ended_with 127 (recorded argv env None None t, o)
-answered_by (Some choice) argv env fds input t o =
-    answered (answer_at (times choice.0 t.calls) choice.1.answers) fds (recorded argv env (taken_by choice.1.input input) (Some choice.0) t, input_after choice.1.input fds o)
+answered_by (Some choice) argv env fds input t o = row_called choice.0 choice.1 argv env fds input t o
 
--- a call of these arguments in this environment (POSIX 2.9.1.4, with the table in place of the file system)
-abbrev pub called : World → List Text → List (Text × Text) → Fds → Trace → Outside → Called
-called world argv env fds t o =
+-- a call of these arguments in this environment, by this table
+abbrev pub called_by : List Row → List Text → List (Text × Text) → Fds → Trace → Outside → Called
+called_by rows argv env fds t o =
     let input = unread (open_at 0 fds o) o in
-    answered_by (chosen_from 0 world.rows argv input) argv env fds input t o
+    answered_by (chosen_from 0 rows argv input) argv env fds input t o
+
+-- the same by the world's table (POSIX 2.9.1.4, with the table in place of the file system)
+abbrev pub called : World → List Text → List (Text × Text) → Fds → Trace → Outside → Called
+called world argv env fds t o = called_by world.rows argv env fds t o

@@ -1,19 +1,13 @@
 -- The outside of a run: files, open descriptions, and the record of what was called and written.
-use Rattle.std.specs.Prelude.{ℕ, zero, suc, ◌+◌, List, [], ◌∷◌, ◌++◌, length, take, drop, Option, Some, None}
+use Rattle.std.specs.Prelude.{ℕ, Bool, true, false, zero, suc, ◌+◌, List, [], ◌∷◌, ◌++◌, length, take, drop, Option, Some, None}
 use Rattle.shell_world.specs.declared.world.Call.{Call}
+use Rattle.shell_world.specs.declared.description.Description.{Description}
+use Rattle.shell_world.specs.declared.description.Description.TheVariants.{Reading, Writing, Appending, Given, Buffer, Output, Errors}
 use Rattle.shell_world.specs.Texts.{Text, Map, lookup, insert, nth, with_nth, text_or_none}
 
 -- an open description (POSIX XBD 3.258)
-pub data Desc : Type 0 where
-  Reading : (path : Text) (offset : ℕ) → Desc
-  Writing : (path : Text) (offset : ℕ) → Desc
-  Appending : (path : Text) → Desc
-  -- a text to be read: standard input, a here-document
-  Given : (text : Text) (offset : ℕ) → Desc
-  -- a text that is written: what a command substitution takes
-  Buffer : (text : Text) → Desc
-  Output : Desc
-  Errors : Desc
+abbrev pub Desc : Type 0
+Desc = Description
 
 pub record Outside : Type 0 where
   pub files : Map Text
@@ -73,9 +67,13 @@ abbrev pub consumed_at : ℕ → Option ℕ → Option Desc → Outside → Outs
 consumed_at n i None o = o
 consumed_at n i (Some d) o = change_desc i (read_on n d) o
 
--- all that a descriptor had to be read was taken
+-- all that there was to be read at an index was taken
+abbrev pub drained_at : Option ℕ → Outside → Outside
+drained_at i o = consumed_at (length (unread (desc_at i o.descs) o)) i (desc_at i o.descs) o
+
+-- the same through a descriptor
 abbrev pub drained : ℕ → Fds → Outside → Outside
-drained fd fds o = consumed_at (length (unread (open_at fd fds o) o)) (index_at (nth fd fds)) (open_at fd fds o) o
+drained fd fds o = drained_at (index_at (nth fd fds)) o
 
 -- the first n bytes, with NUL bytes where there are none
 abbrev pub padded : ℕ → Text → Text
@@ -85,6 +83,20 @@ padded (suc n) (b ∷ bs) = b ∷ padded n bs
 
 abbrev pub overwritten : ℕ → Text → Text → Text
 overwritten offset piece bytes = padded offset bytes ++ piece ++ drop (offset + length piece) bytes
+
+-- the description once a piece was written through it
+abbrev pub written_on : Text → Desc → Desc
+written_on piece (Reading path offset) = Reading path offset
+written_on piece (Given text offset) = Given text offset
+written_on piece (Writing path offset) = Writing path (offset + length piece)
+written_on piece (Appending path) = Appending path
+written_on piece (Buffer text) = Buffer (text ++ piece)
+written_on piece Output = Output
+written_on piece Errors = Errors
+
+abbrev pub written_on_at : Option ℕ → Text → Option Desc → Outside → Outside
+written_on_at i piece None o = o
+written_on_at i piece (Some d) o = change_desc i (written_on piece d) o
 
 -- the record and the outside once a piece that isn't empty was written to a description
 abbrev pub write_to : Option ℕ → Option Desc → Text → Trace × Outside → Trace × Outside
@@ -98,7 +110,27 @@ write_to i (Some (Buffer text)) piece x = (x.0, change_desc i (Buffer (text ++ p
 write_to i (Some Output) piece x = (record (x.0) { out = x.0.out ++ piece }, x.1)
 write_to i (Some Errors) piece x = (record (x.0) { err = x.0.err ++ piece }, x.1)
 
--- the same through a descriptor: what isn't open for writing drops it
+-- the same of any piece: what isn't open for writing drops it
+abbrev pub written_at : Option ℕ → Text → Trace × Outside → Trace × Outside
+written_at i [] x = x
+written_at i (b ∷ bs) x = write_to i (desc_at i x.1.descs) (b ∷ bs) x
+
+-- the same through a descriptor
 abbrev pub written : ℕ → Fds → Text → Trace × Outside → Trace × Outside
-written fd fds [] x = x
-written fd fds (b ∷ bs) x = write_to (index_at (nth fd fds)) (open_at fd fds x.1) (b ∷ bs) x
+written fd fds piece x = written_at (index_at (nth fd fds)) piece x
+
+-- whether something is open for writing there
+abbrev pub is_written : Option Desc → Bool
+is_written None = false
+is_written (Some (Reading path offset)) = false
+is_written (Some (Given text offset)) = false
+is_written (Some (Writing path offset)) = true
+is_written (Some (Appending path)) = true
+is_written (Some (Buffer text)) = true
+is_written (Some Output) = true
+is_written (Some Errors) = true
+
+-- whether a piece can be written there: one without bytes always can
+abbrev pub takes_piece : Option ℕ → Text → List Desc → Bool
+takes_piece i [] ds = true
+takes_piece i (b ∷ bs) ds = is_written (desc_at i ds)

@@ -11,7 +11,8 @@ use Rattle.shell_world.specs.declared.world.RowKey.TheVariants.{Whole, Name}
 use Rattle.shell_world.specs.declared.world.RowInput.{RowInput}
 use Rattle.shell_world.specs.declared.world.RowInput.TheVariants.{Nothing, Any, Exactly}
 use Rattle.shell_world.specs.Texts.{Text, Map, map_of}
-use Rattle.shell_world.specs.Outside.{Outside, Trace, Fds, Given, Output, Errors}
+use Rattle.shell_world.specs.declared.description.Description.TheVariants.{Given, Output, Errors}
+use Rattle.shell_world.specs.Outside.{Outside, Trace, Fds}
 
 abbrev pub NoNul : Text → Type 0
 NoNul text = All (λ b. b ≢ 0) text

@@ -4,8 +4,14 @@
 //! `specs/Outside` what is done through descriptors, `specs/Calls` the table of external commands.
 #![tactic(auto)]
 
+mod copies;
+mod description;
+mod outside;
+mod table;
 mod text_map;
 mod world;
 
+pub use description::{Desc, Fds};
+pub use outside::Outside;
 pub use text_map::TextMap;
 pub use world::{Answer, Bounds, Call, End, Latitude, Report, Row, RowInput, RowKey, World};
