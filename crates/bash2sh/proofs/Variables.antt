@@ -7,7 +7,7 @@ use Rattle.std.proofs.Common.{cond}
 use Rattle.std.specs.FinMap.Entries.{by_order}
 use Rattle.shell_world.specs.Texts.{Text, Map, text_cmp, lookup, insert}
 use Rattle.bash_meaning.specs.Variables as bash
-use Rattle.bash_meaning.specs.Variables.{Unset, One}
+use Rattle.bash_meaning.specs.declared.cell.Value.TheVariants.{Unset, One}
 use Rattle.sh_meaning.specs.Variables as sh
 
 abbrev pub flat_value : bash.Value → Option Text

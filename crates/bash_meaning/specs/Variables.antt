@@ -1,17 +1,9 @@
 -- Bash's variables: a list of scopes of cells (Bash manual, sections 3.4 and 3.3).
 use Rattle.std.specs.Prelude.{ℕ, Bool, true, false, List, [], ◌∷◌, ◌++◌, Option, Some, None}
 use Rattle.shell_world.specs.Texts.{Text, Map, lookup, insert}
-
--- what a cell holds
-pub data Value : Type 0 where
-  Unset : Value
-  One : Text → Value
-
-pub record Cell : Type 0 where
-  pub value : Value
-  pub exported : Bool
-  -- the mark of `declare -A`
-  pub assoc : Bool
+use Rattle.bash_meaning.specs.declared.cell.Cell.{Cell}
+use Rattle.bash_meaning.specs.declared.cell.Value.{Value}
+use Rattle.bash_meaning.specs.declared.cell.Value.TheVariants.{Unset, One}
 
 abbrev pub Scope : Type 0
 Scope = Map Cell

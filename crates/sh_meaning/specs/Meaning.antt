@@ -7,7 +7,9 @@ use Rattle.shell_world.specs.Outside.{Trace, Outside, Fds}
 use Rattle.shell_world.specs.Calls.{Called, called}
 use Rattle.shell_world.specs.Runs.{Signal, Normal, Exits, Try, Value, Fails, St, Res, Ends, GoesOn, Do, after, if_normal, if_value, with_value, choose, with_own, now, gives, unbuilt, Calls}
 use Rattle.shell_world.specs.World.{start_outside, start_fds, start_ifs, no_trace}
+use Rattle.shell_world.specs.declared.world.Report.{Report}
 use Rattle.shell_world.specs.Ends.{Outcome, outcome}
+use Rattle.shell_world.specs.Reports.{report as report_of}
 use Rattle.sh_tree.specs.Shape.{Part, plain, exact, double, param, Parts, no_part, part, Words, no_word, word, Value as AssignedValue, no_value, value, Assigns, no_assign, assign, Command, simple, Stages, no_stage, stage, Pipeline, pipeline, Links, no_link, and_link, or_link, Chain, chain, Script, no_item, item}
 use Rattle.sh_meaning.specs.Variables.{Variables, text_of, assign as assign_to, environment, start_variables}
 
@@ -143,3 +145,7 @@ start world = record {
 -- how the script ends in this world, with so many turns and levels
 abbrev pub run : World → Script → ℕ → ℕ → Outcome
 run world script turns depth = outcome (λ o. o.status) (script_run world (level world depth) script turns (start world))
+
+-- what a run of the script in this world reports, under the world's own bounds
+abbrev pub report : World → Script → Report
+report world script = report_of (λ o. o.status) world.bounds.turns (script_run world (level world world.bounds.depth) script world.bounds.turns (start world))

@@ -1,10 +1,7 @@
 -- The variables of sh: one map from names to a text or no value, with an exported mark (POSIX 2.5.3).
 use Rattle.std.specs.Prelude.{Bool, true, false, List, [], ◌∷◌, Option, Some, None}
 use Rattle.shell_world.specs.Texts.{Text, Map, lookup, insert}
-
-pub record Variable : Type 0 where
-  pub value : Option Text
-  pub exported : Bool
+use Rattle.sh_meaning.specs.declared.variable.Variable.{Variable}
 
 abbrev pub Variables : Type 0
 Variables = Map Variable

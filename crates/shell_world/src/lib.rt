@@ -11,6 +11,7 @@ mod table;
 mod text_map;
 mod world;
 
+pub use copies::copy_texts;
 pub use description::{Desc, Fds};
 pub use outside::Outside;
 pub use text_map::TextMap;
