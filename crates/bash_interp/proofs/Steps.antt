@@ -4,7 +4,7 @@ use Rattle.shell_world.specs.declared.world.World.{World}
 use Rattle.span_text.specs.declared.span.Span.{Span}
 use Rattle.shell_world.specs.Texts.{Text}
 use Rattle.shell_world.specs.Outside.{Trace}
-use Rattle.shell_world.specs.Runs.{Signal, Normal, Try, Value, Fails, St, Res, Ends, GoesOn, Unspecified, Do, after, choose, if_normal, with_value, with_own, now}
+use Rattle.shell_world.specs.Runs.{Signal, Normal, Value, St, Ends, Unspecified, Do, after, choose, if_normal, with_value, with_own, now}
 use Rattle.bash_tree.specs.declared.tree.Assign.{Assign}
 use Rattle.bash_tree.specs.declared.tree.Pipeline.{Pipeline}
 use Rattle.bash_tree.specs.declared.tree.Item.{Item}
@@ -13,8 +13,8 @@ use Rattle.bash_tree.specs.declared.tree.Command.{Command}
 use Rattle.bash_tree.specs.declared.tree.Joint.{Joint}
 use Rattle.bash_tree.specs.declared.tree.Joint.TheVariants.{And, Or}
 use Rattle.bash_tree.specs.Shape as shape
-use Rattle.bash_tree.specs.View.{view_value, assigns_of, words_of, stages_of, view_pipeline, link_of, links_of, view_chain, item_of, items_of}
-use Rattle.bash_meaning.specs.Meaning.{Own, is_zero, value_text, assigned, with_status, assignments, simple_run, stages_run, pipeline_run, links_run, chain_run, script_run}
+use Rattle.bash_tree.specs.View.{view_value, assigns_of, words_of, stages_of, view_pipeline, links_of, view_chain, item_of, items_of}
+use Rattle.bash_meaning.specs.Meaning.{Own, is_zero, value_text, assigned, with_status, assignments, simple_run, stages_run, pipeline_run, links_run, script_run}
 use Rattle.bash_interp.specs.Shells.{calls, link_run, item_run}
 
 -- ---- assignments

@@ -3,9 +3,9 @@ use Rattle.std.specs.Prelude.{ℕ, zero, suc, Bool, true, false, List, [], ◌�
 use Rattle.span_text.specs.KnownNames.{is_known_command}
 use Rattle.shell_world.specs.declared.world.World.{World}
 use Rattle.shell_world.specs.Texts.{Text}
-use Rattle.shell_world.specs.Outside.{Trace, Outside, Fds}
+use Rattle.shell_world.specs.Outside.{Fds}
 use Rattle.shell_world.specs.Calls.{Called, called}
-use Rattle.shell_world.specs.Runs.{Signal, Normal, Exits, Try, Value, Fails, St, Res, Ends, GoesOn, Do, after, if_normal, if_value, with_value, choose, with_own, now, gives, unbuilt, Calls}
+use Rattle.shell_world.specs.Runs.{Signal, Normal, Try, Value, St, Ends, GoesOn, Do, after, if_normal, if_value, with_value, choose, now, gives, unbuilt, Calls}
 use Rattle.shell_world.specs.World.{start_outside, start_fds, start_ifs, no_trace}
 use Rattle.shell_world.specs.declared.world.Report.{Report}
 use Rattle.shell_world.specs.Ends.{Outcome, outcome}

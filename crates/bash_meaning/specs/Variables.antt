@@ -1,5 +1,5 @@
 -- Bash's variables: a list of scopes of cells (Bash manual, sections 3.4 and 3.3).
-use Rattle.std.specs.Prelude.{ℕ, Bool, true, false, List, [], ◌∷◌, ◌++◌, Option, Some, None}
+use Rattle.std.specs.Prelude.{Bool, true, false, List, [], ◌∷◌, Option, Some, None}
 use Rattle.shell_world.specs.Texts.{Text, Map, lookup, insert}
 use Rattle.bash_meaning.specs.declared.cell.Cell.{Cell}
 use Rattle.bash_meaning.specs.declared.cell.Value.{Value}

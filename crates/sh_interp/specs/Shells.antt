@@ -1,5 +1,5 @@
 -- The code's state as the meaning's, and what a step of the code says of the meaning.
-use Rattle.std.specs.Prelude.{◌≡◌, ℕ, Bool, not, List, [], ◌++◌, Result, Ok, Err}
+use Rattle.std.specs.Prelude.{◌≡◌, ℕ, Bool, not, List, ◌++◌, Result, Ok, Err}
 use Rattle.shell_world.specs.declared.world.World.{World}
 use Rattle.shell_world.specs.Texts.{Text}
 use Rattle.shell_world.specs.Runs.{Signal, Normal, Try, Value, Fails, St, Res, Ends, GoesOn, Unspecified, Do, choose, Calls}

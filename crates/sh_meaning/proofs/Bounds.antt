@@ -1,15 +1,14 @@
 -- Larger bounds change nothing of a run that is over, and only lengthen the record of one that goes on.
-use Rattle.std.proofs.Common.{◌≡◌, ℕ, zero, suc, ◌+◌, ◌<◌, ◌≤◌, List, [], ◌∷◌, ◌++◌, Bool, true, false, refl, arith}
+use Rattle.std.proofs.Common.{ℕ, zero, suc, ◌≤◌, List, [], ◌∷◌, ◌++◌, true, false, arith}
 use Rattle.span_text.specs.KnownNames.{is_known_command}
 use Rattle.shell_world.specs.declared.world.World.{World}
 use Rattle.shell_world.specs.Texts.{Text}
-use Rattle.shell_world.specs.Calls.{called}
-use Rattle.shell_world.specs.Runs.{Signal, Normal, Exits, Try, Value, Fails, St, Do, after, if_normal, if_value, with_value, choose, with_own, now, gives, unbuilt, Calls}
-use Rattle.shell_world.proofs.Monotone.{Under, under_from, under_after, under_ends, under_own, under_keep, under_unspecified, under_if_normal, under_if_value, under_with_value, under_stop, under_choice, under_choose, under_by, prefix_refl}
+use Rattle.shell_world.specs.Runs.{Normal, Try, Value, Do, now, gives, Calls}
+use Rattle.shell_world.proofs.Monotone.{Under, under_after, under_ends, under_own, under_keep, under_unspecified, under_if_normal, under_if_value, under_with_value, under_stop, under_choice, under_choose, prefix_refl}
 use Rattle.shell_world.proofs.Records.{called_grows}
 use Rattle.sh_tree.specs.Shape.{Part, plain, exact, double, param, Parts, no_part, part, Words, no_word, word, Value as AssignedValue, no_value, value, Assigns, no_assign, assign, Command, simple, Stages, no_stage, stage, Pipeline, pipeline, Links, no_link, and_link, or_link, Chain, chain, Script, no_item, item}
 use Rattle.sh_meaning.specs.Variables.{text_of, environment}
-use Rattle.sh_meaning.specs.Meaning.{Own, succeeded, with_status, negated, quoted_part, joined, word_part, word_text, fields, value_text, assigned, assignments, answered, external, run_fields, simple_run, command_run, stages_run, pipeline_run, links_run, chain_run, script_run, level}
+use Rattle.sh_meaning.specs.Meaning.{Own, succeeded, with_status, negated, quoted_part, joined, word_part, word_text, fields, value_text, assigned, assignments, external, run_fields, simple_run, command_run, stages_run, pipeline_run, links_run, chain_run, script_run, level}
 
 gives_under : {X : Type 0} (f : Own → X) → Under (gives f) (gives f)
 gives_under f = under_keep (λ o. Value (f o))

@@ -1,5 +1,5 @@
 -- Two programs of which one follows the other, from what each does under two bounds.
-use Rattle.std.proofs.Common.{◌≡◌, ℕ, zero, suc, ◌+◌, ◌<◌, ◌≤◌, List, [], ◌∷◌, ◌++◌, refl, sym, ap, ◌∙◌, subst, arith}
+use Rattle.std.proofs.Common.{◌≡◌, ℕ, ◌+◌, ◌≤◌, sym, ap, ◌∙◌, subst, arith}
 use Rattle.shell_world.specs.Texts.{Text, Map}
 use Rattle.shell_world.specs.Outside.{Trace}
 use Rattle.shell_world.specs.Ends.{Outcome, Ended, Going, Unknown, trace_of, IsPrefix}

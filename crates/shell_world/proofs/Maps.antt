@@ -1,9 +1,9 @@
 -- What an edit of the entries at the place of a key does to the map.
-use Rattle.std.proofs.Common.{◌≡◌, ℕ, zero, suc, ◌+◌, ◌<◌, ◌≤◌, length, get_or, List, [], ◌∷◌, ◌++◌, Bool, true, false, cond, drop, take, Option, Some, None, refl, sym, ap, ◌∙◌, arith, add-one}
+use Rattle.std.proofs.Common.{◌≡◌, ℕ, zero, suc, ◌+◌, ◌<◌, ◌≤◌, length, get_or, [], ◌∷◌, Bool, true, false, drop, Some, None, refl, ap, arith, add-one}
 use Rattle.std.specs.Prelude.{slice_set}
 use Rattle.std.specs.declared.cmp.Ordering.{Ordering}
 use Rattle.std.specs.declared.cmp.Ordering.TheVariants.{Less, Equal, Greater}
-use Rattle.std.specs.Ordering.{is_eq, is_gt}
+use Rattle.std.specs.Ordering.{is_eq}
 use Rattle.std.specs.List.{prefix_len, insert as put_in}
 use Rattle.std.proofs.lemmas.Map.Lookups.{exact_bytes}
 use Rattle.shell_world.specs.Texts.{Text, Map, text_cmp, lookup, insert, is_below, first_is}

@@ -1,7 +1,7 @@
 -- More turns change nothing of a run that is over, and only lengthen the record of one that goes on.
-use Rattle.std.proofs.Common.{◌≡◌, ℕ, zero, suc, ◌+◌, ◌<◌, ◌≤◌, List, [], ◌∷◌, ◌++◌, Bool, true, false, refl, sym, ap, ◌∙◌, subst, arith, append_assoc, append-nil}
-use Rattle.shell_world.specs.Outside.{Trace, Outside}
-use Rattle.shell_world.specs.Runs.{Signal, Normal, Exits, Try, Value, Fails, St, Res, Ends, GoesOn, Unspecified, Do, after, if_normal, if_value, with_value, choose, with_own, now, gives, unbuilt}
+use Rattle.std.proofs.Common.{◌≡◌, ℕ, ◌+◌, ◌≤◌, List, [], ◌++◌, Bool, true, false, refl, sym, ap, ◌∙◌, subst, arith, append_assoc, append-nil}
+use Rattle.shell_world.specs.Outside.{Trace}
+use Rattle.shell_world.specs.Runs.{Signal, Normal, Exits, Try, Value, Fails, St, Res, Ends, GoesOn, Unspecified, Do, after, if_normal, if_value, with_value, choose, with_own}
 use Rattle.shell_world.specs.Ends.{IsPrefix}
 
 pub prefix_refl : (t : Trace) → IsPrefix t t

@@ -6,7 +6,7 @@ use Rattle.shell_world.specs.declared.world.Answer.{Answer}
 use Rattle.shell_world.specs.Texts.{Text, nth}
 use Rattle.shell_world.specs.declared.description.Description.TheVariants.{Reading, Writing, Appending, Given, Buffer, Output, Errors}
 use Rattle.shell_world.specs.Outside.{Desc, Trace, Outside, Fds, index_at, open_at, write_to, written, unread}
-use Rattle.shell_world.specs.Calls.{Called, recorded, answered, answer_at, answered_by, called, chosen_from, times, taken_by, input_after}
+use Rattle.shell_world.specs.Calls.{recorded, answered, answer_at, answered_by, called, chosen_from, times, taken_by, input_after}
 use Rattle.shell_world.specs.Ends.{IsPrefix}
 use Rattle.shell_world.proofs.Monotone.{prefix_refl, prefix_trans}
 

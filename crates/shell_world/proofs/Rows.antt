@@ -1,5 +1,5 @@
 -- Which row is chosen, and which answer comes, seen from an index on.
-use Rattle.std.proofs.Common.{◌≡◌, ℕ, zero, suc, ◌+◌, ◌-◌, ◌<◌, ◌≤◌, length, get_or, List, [], ◌∷◌, Bool, true, false, drop, Option, Some, None, refl, sym, ap, ◌∙◌, arith, add-one, inl, inr, ◌⊎◌, min}
+use Rattle.std.proofs.Common.{◌≡◌, ℕ, zero, suc, ◌+◌, ◌-◌, ◌<◌, ◌≤◌, length, get_or, List, [], ◌∷◌, true, false, drop, Some, None, refl, sym, ap, ◌∙◌, arith, add-one, inl, inr, ◌⊎◌, min}
 use Rattle.std.proofs.lemmas.Bool.{cases_lt}
 use Rattle.shell_world.specs.declared.world.Row.{Row}
 use Rattle.shell_world.specs.declared.world.Answer.{Answer}

@@ -1,7 +1,7 @@
 -- One run follows another, which takes no more turns: the rules for each way to build a run.
-use Rattle.std.proofs.Common.{◌≡◌, ℕ, zero, suc, ◌+◌, ◌<◌, ◌≤◌, List, [], ◌∷◌, ◌++◌, Bool, true, false, refl, sym, ap, ◌∙◌, subst, arith}
+use Rattle.std.proofs.Common.{◌≡◌, ℕ, ◌+◌, ◌≤◌, Bool, true, false, refl, ap, ◌∙◌, subst, arith}
 use Rattle.shell_world.specs.Outside.{Trace}
-use Rattle.shell_world.specs.Runs.{Signal, Normal, Exits, Try, Value, Fails, St, Res, Ends, GoesOn, Unspecified, Do, after, choose, with_own}
+use Rattle.shell_world.specs.Runs.{St, Res, Ends, GoesOn, Unspecified, Do, after, choose}
 
 -- what is to hold where both end
 abbrev pub Post : Type 0 → Type 0 → Type 0 → Type 1

@@ -1,5 +1,5 @@
 -- Bytes that are written over others, and files that are put into a map.
-use Rattle.std.proofs.Common.{◌≡◌, ℕ, zero, suc, ◌+◌, ◌-◌, ◌<◌, ◌≤◌, length, take, drop, List, [], ◌∷◌, ◌++◌, refl, sym, ap, ◌∙◌, arith, add-one}
+use Rattle.std.proofs.Common.{◌≡◌, ℕ, zero, suc, ◌+◌, ◌≤◌, length, take, [], ◌∷◌, ◌++◌, refl, ap, ◌∙◌, arith, add-one}
 use Rattle.shell_world.specs.Texts.{Text}
 use Rattle.shell_world.specs.Outside.{padded}
 

@@ -1,5 +1,5 @@
 -- What a run reports.
-use Rattle.std.specs.Prelude.{ℕ, ◌-◌, List, [], Option, Some, None}
+use Rattle.std.specs.Prelude.{ℕ, ◌-◌, [], Option, Some, None}
 use Rattle.shell_world.specs.declared.world.Report.{Report}
 use Rattle.shell_world.specs.declared.world.End.{End}
 use Rattle.shell_world.specs.declared.world.End.TheVariants as end

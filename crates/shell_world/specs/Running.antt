@@ -1,5 +1,5 @@
 -- The outside of a run as the code keeps it: with the table that answers its calls.
-use Rattle.std.specs.Prelude.{◌≡◌, ℕ, List, Option, Some, None}
+use Rattle.std.specs.Prelude.{ℕ, List, Option, Some, None}
 use Rattle.shell_world.specs.declared.world.World.{World}
 use Rattle.shell_world.specs.declared.world.Row.{Row}
 use Rattle.shell_world.specs.declared.world.Report.{Report}

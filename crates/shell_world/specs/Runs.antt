@@ -1,5 +1,5 @@
 -- Runs with bounds, in either language: what both meanings are made of.
-use Rattle.std.specs.Prelude.{ℕ, zero, suc, List, [], ◌∷◌, Bool, true, false}
+use Rattle.std.specs.Prelude.{ℕ, Bool, true, false}
 use Rattle.shell_world.specs.Outside.{Trace, Outside}
 
 -- how a command ends: it goes on with the next one, or leaves the shell environment

@@ -1,6 +1,6 @@
 -- Which worlds are good, and how a run begins in one.
-use Rattle.std.specs.Prelude.{◌≡◌, ◌≢◌, ℕ, ◌≤◌, ◌<◌, ◌==◌, Bool, true, false, if◌then◌else◌, List, [], ◌∷◌, ◌++◌, map, length, Option, Some, None, All, codes}
-use Rattle.std.specs.List.{slice_split, list_any}
+use Rattle.std.specs.Prelude.{◌≡◌, ◌≢◌, ◌≤◌, ◌==◌, true, false, if◌then◌else◌, List, [], ◌∷◌, ◌++◌, map, Some, None, All, codes}
+use Rattle.std.specs.List.{slice_split}
 use Rattle.span_text.specs.Names.{is_name, is_reserved}
 use Rattle.span_text.specs.KnownNames.{is_special_name}
 use Rattle.shell_world.specs.declared.world.World.{World}
@@ -10,7 +10,7 @@ use Rattle.shell_world.specs.declared.world.RowKey.{RowKey}
 use Rattle.shell_world.specs.declared.world.RowKey.TheVariants.{Whole, Name}
 use Rattle.shell_world.specs.declared.world.RowInput.{RowInput}
 use Rattle.shell_world.specs.declared.world.RowInput.TheVariants.{Nothing, Any, Exactly}
-use Rattle.shell_world.specs.Texts.{Text, Map, map_of}
+use Rattle.shell_world.specs.Texts.{Text, map_of}
 use Rattle.shell_world.specs.declared.description.Description.TheVariants.{Given, Output, Errors}
 use Rattle.shell_world.specs.Outside.{Outside, Trace, Fds}
 

@@ -1,4 +1,4 @@
-use Rattle.std.proofs.Common.{◌≡◌, ◌∙◌, sym, ap, get_or, Some, true, false, arith}
+use Rattle.std.proofs.Common.{◌≡◌, ◌∙◌, sym, ap, get_or, Some, true, false}
 use Rattle.shell_world.specs.Calls.{fits}
 use Rattle.shell_world.proofs.Rows.{chosen_here, chosen_behind, chosen_end}
 use Rattle.shell_world.proofs.table.choose.Goals as goal

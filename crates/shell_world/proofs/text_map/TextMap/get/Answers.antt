@@ -1,6 +1,6 @@
-use Rattle.std.proofs.Common.{◌≡◌, ◌<◌, ◌∙◌, sym, ap, length, arith, get_or, true, false, Some}
+use Rattle.std.proofs.Common.{◌≡◌, ◌∙◌, sym, ap, length, arith, get_or, true, false, Some}
 use Rattle.std.specs.Ordering.{is_eq}
-use Rattle.shell_world.specs.Texts.{text_cmp, lookup}
+use Rattle.shell_world.specs.Texts.{text_cmp}
 use Rattle.shell_world.proofs.Maps.{lookup_here, lookup_behind, lookup_end}
 use Rattle.shell_world.proofs.text_map.TextMap.get.Goals as goal
 
