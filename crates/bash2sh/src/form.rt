@@ -7,6 +7,7 @@ ghost use Rattle.bash_tree.specs.Shape.{simple, no_assign, no_word};
 ghost use Rattle.bash2sh.specs.Form as form;
 ghost use Rattle.bash2sh.specs.Views.{parts_seen};
 
+use crate::language::Language;
 use bash_tree::{Assign, AssignValue, CommandKind, Param, Part, PartKind, Word};
 use span_text::{Memory, Text, is_known_command, is_reserved, is_special_name};
 use std::alloc::Global;
@@ -214,4 +215,22 @@ pub fn is_taken(alloc: Global, kind: &CommandKind) -> Result<bool, Memory>
         return call_form(alloc, kind.words());
     }
     Ok(kind.words().is_empty() && assigns_form(kind.assigns()))
+}
+
+/// Whether one of the assignments appends.
+fn appends(assigns: &[Assign]) -> bool
+    ensures { result ≡ form.appends (assigns_of assigns.now) }
+{
+    assigns.iter().any(|assign| assign.append)
+}
+
+/// Whether the command is taken in a script of this language: in sh nothing is appended.
+pub fn is_taken_in(alloc: Global, language: Language, kind: &CommandKind) -> Result<bool, Memory>
+    ensures { IfOk result (λ b. b ≡ form.takes language (command_of kind.now)) }
+{
+    let taken = is_taken(alloc, kind)?;
+    match language {
+        Language::Bash => Ok(taken),
+        Language::Sh => Ok(taken && !appends(kind.assigns())),
+    }
 }

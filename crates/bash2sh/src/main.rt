@@ -10,6 +10,7 @@ mod commands;
 mod fault;
 mod form;
 mod input;
+mod language;
 mod lines;
 mod lowering;
 mod messages;

@@ -5,6 +5,7 @@ ghost use Rattle.sh_tree.specs.View as sh;
 ghost use Rattle.bash2sh.specs.Translation.{Translates};
 
 use crate::fault::{ReadFault, TranslateFault};
+use crate::language::Language;
 use crate::lines::read;
 use crate::lowering::lower;
 use sh_tree::print;
@@ -19,7 +20,7 @@ use std::alloc::Global;
 pub fn translate<K: Sink>(alloc: Global, text: &[u8], out: &mut K) -> Result<(), TranslateFault>
     ensures { Translates text.now (K.held out.old) (K.held out.new) (K.faults out.old) (K.faults out.new) result }
 {
-    let script = match read(alloc, text) {
+    let script = match read(alloc, Language::Bash, text) {
         Ok(script) => script,
         Err(ReadFault::Memory) => return Err(TranslateFault::Memory),
         Err(ReadFault::NotYet(place)) => return Err(TranslateFault::NotYet(place)),
