@@ -71,7 +71,7 @@ abbrev pub with_front : {X : Type 0} → List X → Judged (List X) → Judged (
 with_front done (Good xs) = Good (done ++ xs)
 with_front done (Bad pointer r) = Bad pointer r
 
-front_more : {X : Type 0} (done : List X) (x : X) (j : Judged (List X)) → with_front done (and_then j (λ xs. Good (x ∷ xs))) ≡ with_front (done ++ x ∷ []) j
+pub front_more : {X : Type 0} (done : List X) (x : X) (j : Judged (List X)) → with_front done (and_then j (λ xs. Good (x ∷ xs))) ≡ with_front (done ++ x ∷ []) j
 front_more done x (Good xs) = ap Good (sym (append_assoc done (x ∷ []) xs))
 front_more done x (Bad pointer r) = refl
 
@@ -101,7 +101,7 @@ item_good {X = X} judge done later i vs v x all lt is good pushed so_far =
     let moved = front_more done x (items_of judge (length done + 1) rest) ∙ ap (λ n. with_front (done ++ x ∷ []) (items_of judge n rest)) (sym (length_more done x)) in
     ap (λ l. items_left judge l (i + 1) vs) pushed ∙ sym moved ∙ sym here ∙ sym (items_next judge done i vs v lt is) ∙ so_far
 
-front_bad : {X Y : Type 0} (done : List X) (j : Judged Y) (f : Y → Judged (List X)) (e : JobFault) → IsJudged j (Err e) → IsJudged (with_front done (and_then j f)) (Err e)
+pub front_bad : {X Y : Type 0} (done : List X) (j : Judged Y) (f : Y → Judged (List X)) (e : JobFault) → IsJudged j (Err e) → IsJudged (with_front done (and_then j f)) (Err e)
 front_bad done j f (BadWorld pointer r) h = ap (λ k. with_front done (and_then k f)) h
 front_bad done j f Memory h = tt
 

@@ -1,5 +1,5 @@
 -- The worlds that jobs give.
-use Rattle.std.specs.Prelude.{ℕ, ◌+◌, ◌==◌, ◌&&◌, ◌||◌, not, nat_le, Bool, true, false, if◌then◌else◌, List, [], ◌∷◌, ◌++◌, length, codes, Option, Some, None, is_some}
+use Rattle.std.specs.Prelude.{ℕ, ◌+◌, ◌==◌, ◌&&◌, ◌||◌, not, nat_le, nat_lt, Bool, true, false, if◌then◌else◌, List, [], ◌∷◌, ◌++◌, length, codes, Option, Some, None, is_some}
 use Rattle.std.specs.List.{slice_split, list_all, list_any}
 use Rattle.std.specs.Str.{is_utf8}
 use Rattle.span_text.specs.Names.{is_name, is_reserved}
@@ -55,7 +55,7 @@ is_path path = list_all is_component (slice_split (λ b. b == 47) (below_root pa
 -- the folders of what goes on so behind a front
 abbrev pub folders_from : Text → Text → List Text
 folders_from front [] = []
-folders_from front (b ∷ path) = if b == 47 && not (same_text [] front) then front ∷ folders_from (front ++ b ∷ []) path else folders_from (front ++ b ∷ []) path
+folders_from front (b ∷ path) = if b == 47 && nat_lt 0 (length front) then front ∷ folders_from (front ++ b ∷ []) path else folders_from (front ++ b ∷ []) path
 
 -- another file is a folder of this path
 abbrev pub clashes : Data → Text → Bool

@@ -1,6 +1,6 @@
 //! The bounds and the latitude of a job's run.
 
-ghost use Rattle.std.specs.Prelude.{◌≡◌, codes};
+ghost use Rattle.std.specs.Prelude.{◌≡◌, false, codes};
 ghost use Rattle.serde_json.specs.View.{view};
 ghost use Rattle.world_json.specs.Judging as judging;
 ghost use Rattle.world_json.specs.Worlds as worlds;
@@ -64,9 +64,17 @@ fn last(alloc: Global, value: &Value) -> Result<bool, JobFault>
     ensures { judging.IsJudged (worlds.last_of (view value.now)) result }
 {
     let word = text(alloc, value)?;
-    match word.bytes() {
-        b"current" => Ok(true),
-        b"subshell" => Ok(false),
-        _ => Err(refused(alloc, Reason::Range)),
+    last_word(alloc, word.bytes())
+}
+
+fn last_word(alloc: Global, word: &[u8]) -> Result<bool, JobFault>
+    ensures { judging.IsJudged (worlds.last_word word.now) result }
+{
+    if b"current".as_slice() == word {
+        Ok(true)
+    } else if b"subshell".as_slice() == word {
+        Ok(false)
+    } else {
+        Err(refused(alloc, Reason::Range))
     }
 }

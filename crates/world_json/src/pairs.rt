@@ -1,14 +1,14 @@
 //! The environment and the files of a job, in the order of their names.
 
 ghost use Rattle.std.specs.Prelude.{◌≡◌};
-ghost use Rattle.serde_json.specs.View.{view};
+ghost use Rattle.serde_json.specs.View.{view, members_view};
 ghost use Rattle.shell_world.specs.World.{below_root};
 ghost use Rattle.world_json.specs.Judging as judging;
 ghost use Rattle.world_json.specs.Worlds as worlds;
 
 use crate::fault::{JobFault, Reason, refused, within};
 use crate::fields::{bytes, text};
-use serde_json::Value;
+use serde_json::{Map, Value};
 use span_text::{List, Text, is_name, is_reserved, is_special_name};
 use std::alloc::Global;
 
@@ -16,12 +16,19 @@ use std::alloc::Global;
 pub(crate) fn environment(alloc: Global, value: &Value) -> Result<List<(Text, Text)>, JobFault>
     ensures { judging.IsJudged (worlds.environment_of (view value.now)) result }
 {
-    let Some(members) = value.as_object() else {
-        return Err(refused(alloc, Reason::WrongType));
-    };
+    match value.as_object() {
+        Some(members) => variables(alloc, members),
+        None => Err(refused(alloc, Reason::WrongType)),
+    }
+}
+
+fn variables(alloc: Global, members: &Map<String, Value>) -> Result<List<(Text, Text)>, JobFault>
+    ensures { judging.IsJudged
+        (worlds.pairs_of worlds.variable_of (members_view members.now.entries)) result }
+{
     let mut variables = List::new(alloc);
     for (key, member) in members.iter() {
-        variables.push(within(alloc, key.as_bytes(), variable(alloc, key, member))?)?;
+        variables.push(within(alloc, key.as_bytes(), variable(alloc, key.as_str(), member))?)?;
     }
     Ok(variables)
 }
@@ -52,12 +59,24 @@ fn variable_named(alloc: Global, name: Text, value: Text) -> Result<(Text, Text)
 pub(crate) fn files(alloc: Global, value: &Value) -> Result<List<(Text, Text)>, JobFault>
     ensures { judging.IsJudged (worlds.files_of (view value.now)) result }
 {
-    let Some(members) = value.as_object() else {
-        return Err(refused(alloc, Reason::WrongType));
-    };
+    match value.as_object() {
+        Some(members) => files_of(alloc, value, members),
+        None => Err(refused(alloc, Reason::WrongType)),
+    }
+}
+
+/// The files of these members, among all the files of the job.
+fn files_of(
+    alloc: Global,
+    all: &Value,
+    members: &Map<String, Value>,
+) -> Result<List<(Text, Text)>, JobFault>
+    ensures { judging.IsJudged
+        (worlds.pairs_of (worlds.file_of (view all.now)) (members_view members.now.entries)) result }
+{
     let mut files = List::new(alloc);
     for (key, member) in members.iter() {
-        files.push(within(alloc, key.as_bytes(), file(alloc, value, key, member))?)?;
+        files.push(within(alloc, key.as_bytes(), file(alloc, all, key.as_str(), member))?)?;
     }
     Ok(files)
 }
