@@ -30,8 +30,8 @@ value_missing bytes h = not_there (is_utf8 bytes) (read bytes) (λ e. h (IsUtf8-
 pub unread_judged : (limit : ℕ) (bytes : Text) (e : JobFault) (Lacks : Type 0) → (e ≡ fault.Memory) ⊎ ((e ≡ fault.BadWorld [] reason.Json) × ¬ Lacks) → (¬ Lacks → IsUtf8 bytes → read bytes ≡ None) → IsJudged (job_of limit bytes) (Err e)
 unread_judged limit bytes e Lacks either none =
     elim either [
-      inl is ↦ let P : JobFault → Type 0 = λ f. IsJudged (job_of limit bytes) (Err f) in subst P (sym is) tt |
-      inr h ↦ refused_is (job_of limit bytes) reason.Json e h.0 (ap (value_job limit) (value_missing bytes (none h.1)))
+      | inl is ↦ let P : JobFault → Type 0 = λ f. IsJudged (job_of limit bytes) (Err f) in subst P (sym is) tt
+      | inr h ↦ refused_is (job_of limit bytes) reason.Json e h.0 (ap (value_job limit) (value_missing bytes (none h.1)))
     ]
 
 pub read_judged : (limit : ℕ) (bytes : Text) (d : Data) (r : Result Job JobFault) → IsUtf8 bytes → read bytes ≡ Some d → IsJudged (value_job limit (Some d)) r → IsJudged (job_of limit bytes) r

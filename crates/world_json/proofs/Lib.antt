@@ -3,3 +3,7 @@ pub mod Shapes
 pub mod Judging
 pub mod MapLoops
 pub mod Bytes
+pub mod Ordered
+pub mod Holding
+pub mod GoodWorlds
+pub mod ReadWorlds

@@ -2,10 +2,11 @@
 use Rattle.std.specs.Prelude.{◌≡◌, ℕ, ◌+◌, ◌==◌, ◌&&◌, nat_le, Bool, true, false, if◌then◌else◌, List, [], ◌∷◌, ◌++◌, codes, decimal, Option, Some, None, Result, Ok, Err, IsTrue}
 use Rattle.std.specs.List.{flat_map, list_all}
 use Rattle.std.specs.Str.{chars}
-use Rattle.span_text.specs.KnownNames.{is_among}
+use Rattle.span_text.specs.KnownNames.{same_text, is_among}
 use Rattle.serde_json.specs.Data.{Num, unsigned, negative, float, Data, Items, no_items, item, Members, no_members, member}
 use Rattle.serde_json.specs.Find.{get, as_number, as_str, as_array, as_object}
 use Rattle.shell_world.specs.Texts.{Text}
+use Rattle.world_json.specs.Texts.{characters}
 use Rattle.world_json.specs.declared.fault.Reason.{Reason}
 use Rattle.world_json.specs.declared.fault.Reason.TheVariants as reason
 use Rattle.world_json.specs.declared.fault.JobFault.{JobFault}
@@ -68,8 +69,9 @@ within name (Bad pointer r) = Bad (step_to name ++ pointer) r
 abbrev pub stands_for_byte : ℕ → Bool
 stands_for_byte c = nat_le 1 c && nat_le c 255
 
+-- the bytes whose characters the text has
 abbrev pub bytes_of : Text → Judged Text
-bytes_of s = tested (list_all stands_for_byte (chars s)) reason.NotBytes (chars s)
+bytes_of s = tested (list_all stands_for_byte (chars s) && same_text (characters (chars s)) s) reason.NotBytes (chars s)
 
 abbrev pub bytes_from : Option Text → Judged Text
 bytes_from None = refused reason.WrongType

@@ -13,6 +13,7 @@ use std::alloc::Global;
 
 /// The most turns and the most levels that a job may ask for.
 const MOST_TURNS: u32 = 10_000_000;
+
 const MOST_DEPTH: u32 = 32;
 
 /// The bounds that the job's members give.

@@ -104,11 +104,18 @@ pub(crate) fn refused(alloc: Global, reason: Reason) -> JobFault
 }
 
 /// The answer on a member or an item of this name, from where it stands.
-pub(crate) fn within<T: Drop>(alloc: Global, name: &[u8], field: Result<T, JobFault>) -> Result<T, JobFault>
+pub(crate) fn within<T: Drop>(
+    alloc: Global,
+    name: &[u8],
+    field: Result<T, JobFault>,
+) -> Result<T, JobFault>
     ensures { (judged : judging.Judged T) → judging.IsJudged judged field → judging.IsJudged (judging.within name.now judged) result }
 {
     match field {
-        Err(JobFault::BadWorld(pointer, reason)) => Err(JobFault::BadWorld(behind(alloc, name, &pointer)?, reason)),
+        Err(JobFault::BadWorld(pointer, reason)) => Err(JobFault::BadWorld(
+            behind(alloc, name, &pointer)?,
+            reason,
+        )),
         field => field,
     }
 }

@@ -1,8 +1,9 @@
 //! A job: a script and the world that it is to run in.
 
-ghost use Rattle.std.specs.Prelude.{◌≡◌, ◌⊎◌, [], ◌∷◌, Some, codes};
+ghost use Rattle.std.specs.Prelude.{◌≡◌, ◌⊎◌, [], ◌∷◌, Some, IfOk, codes};
 ghost use Rattle.serde_json.specs.Errors.{IsMemory};
 ghost use Rattle.serde_json.specs.View.{view};
+ghost use Rattle.shell_world.specs.World.{IsGood};
 ghost use Rattle.world_json.specs.declared.fault.JobFault.TheVariants as fault;
 ghost use Rattle.world_json.specs.declared.fault.Reason.TheVariants as reason;
 ghost use Rattle.world_json.specs.Judging as judging;
@@ -40,7 +41,8 @@ pub struct Job {
 /// The job that these bytes are: a JSON object in UTF-8, whose script has at most `limit` bytes. Else the pointer to
 /// the first bad field, with its reason.
 pub fn read(alloc: Global, text: &[u8], limit: u32) -> Result<Job, JobFault>
-    ensures { judging.IsJudged (worlds.job_of limit text.now) result }
+    ensures judged { judging.IsJudged (worlds.job_of limit text.now) result }
+    ensures good { IfOk result (λ job. IsGood job.world) }
 {
     match Value::from_slice(alloc, text) {
         Ok(value) => value_job(alloc, &value, limit),

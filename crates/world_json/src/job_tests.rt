@@ -27,7 +27,10 @@ fn no_object(rt: HostRuntime) -> Result<(), Fail> {
         ("{\"script\":\"\tq\"}", ""),
     ];
     for (job, pointer) in table {
-        assert!(rt; is_refused(rt.alloc(), job, pointer, Reason::Json)?, "{job}");
+        assert!(rt;
+            is_refused(rt.alloc(), job, pointer, Reason::Json)?,
+            "{job}"
+        );
     }
     Ok(())
 }
@@ -43,16 +46,40 @@ fn unknown_members(rt: HostRuntime) -> Result<(), Fail> {
         ("{\"\\u00e4\":1,\"script\":\"\"}", "/ä"),
         ("{\"\\u20ac\\n\":1,\"script\":\"\"}", "/€\n"),
         ("{\"\\ud83d\\ude00\":1,\"script\":\"\"}", "/😀"),
-        ("{\"script\":\"\",\"latitude\":{\"Last\":\"current\",\"redirect\":0}}", "/latitude/Last"),
-        ("{\"script\":\"\",\"table\":[{\"name\":\"a\",\"answers\":[{}],\"x\":1}]}", "/table/0/x"),
-        ("{\"script\":\"\",\"table\":[{\"name\":\"a\",\"argv\":[\"a\"],\"answers\":[{}]}]}", "/table/0/name"),
-        ("{\"script\":\"\",\"table\":[{\"name\":\"a\",\"argv\":[\"a\"],\"answers\":[{}],\"zz\":0}]}", "/table/0/name"),
-        ("{\"script\":\"\",\"table\":[{\"name\":\"a\",\"argv\":[\"a\"],\"answers\":[{}],\"a\":0}]}", "/table/0/a"),
-        ("{\"script\":\"\",\"table\":[{\"name\":\"a\",\"answers\":[{\"status\":0,\"stdout\":\"\"}]}]}", "/table/0/answers/0/stdout"),
-        ("{\"script\":\"\",\"table\":[{\"name\":\"a\",\"answers\":[{},{\"~\":0}]}]}", "/table/0/answers/1/~0"),
+        (
+            "{\"script\":\"\",\"latitude\":{\"Last\":\"current\",\"redirect\":0}}",
+            "/latitude/Last",
+        ),
+        (
+            "{\"script\":\"\",\"table\":[{\"name\":\"a\",\"answers\":[{}],\"x\":1}]}",
+            "/table/0/x",
+        ),
+        (
+            "{\"script\":\"\",\"table\":[{\"name\":\"a\",\"argv\":[\"a\"],\"answers\":[{}]}]}",
+            "/table/0/name",
+        ),
+        (
+            "{\"script\":\"\",\"table\":[{\"name\":\"a\",\"argv\":[\"a\"],\"answers\":[{}],\"zz\":0}]}",
+            "/table/0/name",
+        ),
+        (
+            "{\"script\":\"\",\"table\":[{\"name\":\"a\",\"argv\":[\"a\"],\"answers\":[{}],\"a\":0}]}",
+            "/table/0/a",
+        ),
+        (
+            "{\"script\":\"\",\"table\":[{\"name\":\"a\",\"answers\":[{\"status\":0,\"stdout\":\"\"}]}]}",
+            "/table/0/answers/0/stdout",
+        ),
+        (
+            "{\"script\":\"\",\"table\":[{\"name\":\"a\",\"answers\":[{},{\"~\":0}]}]}",
+            "/table/0/answers/1/~0",
+        ),
     ];
     for (job, pointer) in table {
-        assert!(rt; is_refused(rt.alloc(), job, pointer, Reason::Unknown)?, "{job}");
+        assert!(rt;
+            is_refused(rt.alloc(), job, pointer, Reason::Unknown)?,
+            "{job}"
+        );
     }
     Ok(())
 }
@@ -63,12 +90,24 @@ fn missing_members(rt: HostRuntime) -> Result<(), Fail> {
         ("{}", "/script"),
         ("{\"args\":[]}", "/script"),
         ("{\"script\":\"\",\"table\":[{}]}", "/table/0/argv"),
-        ("{\"script\":\"\",\"table\":[{\"answers\":[{}]}]}", "/table/0/argv"),
-        ("{\"script\":\"\",\"table\":[{\"name\":\"a\"}]}", "/table/0/answers"),
-        ("{\"script\":\"\",\"table\":[{\"name\":\"a\",\"answers\":[{}]},{\"argv\":[\"a\"]}]}", "/table/1/answers"),
+        (
+            "{\"script\":\"\",\"table\":[{\"answers\":[{}]}]}",
+            "/table/0/argv",
+        ),
+        (
+            "{\"script\":\"\",\"table\":[{\"name\":\"a\"}]}",
+            "/table/0/answers",
+        ),
+        (
+            "{\"script\":\"\",\"table\":[{\"name\":\"a\",\"answers\":[{}]},{\"argv\":[\"a\"]}]}",
+            "/table/1/answers",
+        ),
     ];
     for (job, pointer) in table {
-        assert!(rt; is_refused(rt.alloc(), job, pointer, Reason::Missing)?, "{job}");
+        assert!(rt;
+            is_refused(rt.alloc(), job, pointer, Reason::Missing)?,
+            "{job}"
+        );
     }
     Ok(())
 }
@@ -95,20 +134,62 @@ fn values_of_another_type(rt: HostRuntime) -> Result<(), Fail> {
         ("{\"script\":\"\",\"files\":{\"\\u0100\":[]}}", "/files/Ā"),
         ("{\"script\":\"\",\"table\":{}}", "/table"),
         ("{\"script\":\"\",\"table\":[1]}", "/table/0"),
-        ("{\"script\":\"\",\"table\":[{\"name\":1,\"answers\":[{}]}]}", "/table/0/name"),
-        ("{\"script\":\"\",\"table\":[{\"argv\":\"a\",\"answers\":[{}]}]}", "/table/0/argv"),
-        ("{\"script\":\"\",\"table\":[{\"argv\":[\"a\",null],\"answers\":[{}]}]}", "/table/0/argv/1"),
-        ("{\"script\":\"\",\"table\":[{\"name\":\"a\",\"input\":false,\"answers\":[{}]}]}", "/table/0/input"),
-        ("{\"script\":\"\",\"table\":[{\"name\":\"a\",\"input\":0,\"answers\":[{}]}]}", "/table/0/input"),
-        ("{\"script\":\"\",\"table\":[{\"name\":\"a\",\"input\":[],\"answers\":[{}]}]}", "/table/0/input"),
-        ("{\"script\":\"\",\"table\":[{\"name\":\"a\",\"input\":{},\"answers\":[{}]}]}", "/table/0/input"),
-        ("{\"script\":\"\",\"table\":[{\"name\":\"a\",\"input\":1.5,\"answers\":[{}]}]}", "/table/0/input"),
-        ("{\"script\":\"\",\"table\":[{\"name\":\"a\",\"answers\":{}}]}", "/table/0/answers"),
-        ("{\"script\":\"\",\"table\":[{\"name\":\"a\",\"answers\":[[]]}]}", "/table/0/answers/0"),
-        ("{\"script\":\"\",\"table\":[{\"name\":\"a\",\"answers\":[{\"status\":\"0\"}]}]}", "/table/0/answers/0/status"),
-        ("{\"script\":\"\",\"table\":[{\"name\":\"a\",\"answers\":[{\"status\":0.0}]}]}", "/table/0/answers/0/status"),
-        ("{\"script\":\"\",\"table\":[{\"name\":\"a\",\"answers\":[{\"out\":0}]}]}", "/table/0/answers/0/out"),
-        ("{\"script\":\"\",\"table\":[{\"name\":\"a\",\"answers\":[{\"err\":[]}]}]}", "/table/0/answers/0/err"),
+        (
+            "{\"script\":\"\",\"table\":[{\"name\":1,\"answers\":[{}]}]}",
+            "/table/0/name",
+        ),
+        (
+            "{\"script\":\"\",\"table\":[{\"argv\":\"a\",\"answers\":[{}]}]}",
+            "/table/0/argv",
+        ),
+        (
+            "{\"script\":\"\",\"table\":[{\"argv\":[\"a\",null],\"answers\":[{}]}]}",
+            "/table/0/argv/1",
+        ),
+        (
+            "{\"script\":\"\",\"table\":[{\"name\":\"a\",\"input\":false,\"answers\":[{}]}]}",
+            "/table/0/input",
+        ),
+        (
+            "{\"script\":\"\",\"table\":[{\"name\":\"a\",\"input\":0,\"answers\":[{}]}]}",
+            "/table/0/input",
+        ),
+        (
+            "{\"script\":\"\",\"table\":[{\"name\":\"a\",\"input\":[],\"answers\":[{}]}]}",
+            "/table/0/input",
+        ),
+        (
+            "{\"script\":\"\",\"table\":[{\"name\":\"a\",\"input\":{},\"answers\":[{}]}]}",
+            "/table/0/input",
+        ),
+        (
+            "{\"script\":\"\",\"table\":[{\"name\":\"a\",\"input\":1.5,\"answers\":[{}]}]}",
+            "/table/0/input",
+        ),
+        (
+            "{\"script\":\"\",\"table\":[{\"name\":\"a\",\"answers\":{}}]}",
+            "/table/0/answers",
+        ),
+        (
+            "{\"script\":\"\",\"table\":[{\"name\":\"a\",\"answers\":[[]]}]}",
+            "/table/0/answers/0",
+        ),
+        (
+            "{\"script\":\"\",\"table\":[{\"name\":\"a\",\"answers\":[{\"status\":\"0\"}]}]}",
+            "/table/0/answers/0/status",
+        ),
+        (
+            "{\"script\":\"\",\"table\":[{\"name\":\"a\",\"answers\":[{\"status\":0.0}]}]}",
+            "/table/0/answers/0/status",
+        ),
+        (
+            "{\"script\":\"\",\"table\":[{\"name\":\"a\",\"answers\":[{\"out\":0}]}]}",
+            "/table/0/answers/0/out",
+        ),
+        (
+            "{\"script\":\"\",\"table\":[{\"name\":\"a\",\"answers\":[{\"err\":[]}]}]}",
+            "/table/0/answers/0/err",
+        ),
         ("{\"script\":\"\",\"turns\":\"1\"}", "/turns"),
         ("{\"script\":\"\",\"turns\":null}", "/turns"),
         ("{\"script\":\"\",\"turns\":1.5}", "/turns"),
@@ -120,21 +201,42 @@ fn values_of_another_type(rt: HostRuntime) -> Result<(), Fail> {
         ("{\"script\":\"\",\"depth\":3.0}", "/depth"),
         ("{\"script\":\"\",\"latitude\":1}", "/latitude"),
         ("{\"script\":\"\",\"latitude\":[]}", "/latitude"),
-        ("{\"script\":\"\",\"latitude\":{\"last\":true}}", "/latitude/last"),
-        ("{\"script\":\"\",\"latitude\":{\"redirect\":\"1\"}}", "/latitude/redirect"),
-        ("{\"script\":1,\"args\":[],\"env\":[],\"stdin\":1}", "/script"),
+        (
+            "{\"script\":\"\",\"latitude\":{\"last\":true}}",
+            "/latitude/last",
+        ),
+        (
+            "{\"script\":\"\",\"latitude\":{\"redirect\":\"1\"}}",
+            "/latitude/redirect",
+        ),
+        (
+            "{\"script\":1,\"args\":[],\"env\":[],\"stdin\":1}",
+            "/script",
+        ),
         ("{\"script\":\"\",\"env\":[],\"stdin\":1}", "/env"),
         ("{\"script\":\"\",\"files\":1,\"stdin\":1}", "/stdin"),
         ("{\"script\":\"\",\"files\":1,\"table\":1}", "/files"),
         ("{\"script\":\"\",\"turns\":-1,\"table\":1}", "/table"),
         ("{\"script\":\"\",\"env\":{\"b\":1,\"a\":1}}", "/env/a"),
         ("{\"script\":\"\",\"env\":{\"a\":1,\"Z\":1}}", "/env/Z"),
-        ("{\"script\":\"\",\"table\":[{\"name\":1,\"input\":0,\"answers\":0}]}", "/table/0/name"),
-        ("{\"script\":\"\",\"table\":[{\"name\":\"\",\"input\":0,\"answers\":0}]}", "/table/0/input"),
-        ("{\"script\":\"\",\"table\":[{\"name\":\"a\",\"answers\":[{\"err\":0,\"out\":0}]}]}", "/table/0/answers/0/out"),
+        (
+            "{\"script\":\"\",\"table\":[{\"name\":1,\"input\":0,\"answers\":0}]}",
+            "/table/0/name",
+        ),
+        (
+            "{\"script\":\"\",\"table\":[{\"name\":\"\",\"input\":0,\"answers\":0}]}",
+            "/table/0/input",
+        ),
+        (
+            "{\"script\":\"\",\"table\":[{\"name\":\"a\",\"answers\":[{\"err\":0,\"out\":0}]}]}",
+            "/table/0/answers/0/out",
+        ),
     ];
     for (job, pointer) in table {
-        assert!(rt; is_refused(rt.alloc(), job, pointer, Reason::WrongType)?, "{job}");
+        assert!(rt;
+            is_refused(rt.alloc(), job, pointer, Reason::WrongType)?,
+            "{job}"
+        );
     }
     Ok(())
 }
@@ -146,23 +248,56 @@ fn characters_that_stand_for_no_byte(rt: HostRuntime) -> Result<(), Fail> {
         ("{\"script\":\"\\u0000\"}", "/script"),
         ("{\"script\":\"\\ud83d\\ude00\"}", "/script"),
         ("{\"script\":\"€\"}", "/script"),
-        ("{\"script\":\"\",\"args\":[\"a\",\"b\",\"\\u0000\"]}", "/args/2"),
+        (
+            "{\"script\":\"\",\"args\":[\"a\",\"b\",\"\\u0000\"]}",
+            "/args/2",
+        ),
         ("{\"script\":\"\",\"env\":{\"\\u0101\":\"a\"}}", "/env/ā"),
         ("{\"script\":\"\",\"env\":{\"a\":\"\\u0000\"}}", "/env/a"),
         ("{\"script\":\"\",\"env\":{\"1\":\"\\u0100\"}}", "/env/1"),
         ("{\"script\":\"\",\"stdin\":\"\\u07ff\"}", "/stdin"),
-        ("{\"script\":\"\",\"files\":{\"a\\u0000\":\"\"}}", "/files/a\0"),
-        ("{\"script\":\"\",\"files\":{\"a\":\"\\u0100\"}}", "/files/a"),
-        ("{\"script\":\"\",\"files\":{\"..\":\"\\u0100\"}}", "/files/.."),
-        ("{\"script\":\"\",\"table\":[{\"name\":\"\\u0100\",\"answers\":[{}]}]}", "/table/0/name"),
-        ("{\"script\":\"\",\"table\":[{\"argv\":[\"\\u0000\"],\"answers\":[{}]}]}", "/table/0/argv/0"),
-        ("{\"script\":\"\",\"table\":[{\"name\":\"a\",\"input\":\"\\u0000\",\"answers\":[{}]}]}", "/table/0/input"),
-        ("{\"script\":\"\",\"table\":[{\"name\":\"a\",\"answers\":[{\"out\":\"\\u0100\"}]}]}", "/table/0/answers/0/out"),
-        ("{\"script\":\"\",\"table\":[{\"name\":\"a\",\"answers\":[{\"err\":\"\\u0000\"}]}]}", "/table/0/answers/0/err"),
-        ("{\"script\":\"\",\"latitude\":{\"last\":\"\\u0100\"}}", "/latitude/last"),
+        (
+            "{\"script\":\"\",\"files\":{\"a\\u0000\":\"\"}}",
+            "/files/a\0",
+        ),
+        (
+            "{\"script\":\"\",\"files\":{\"a\":\"\\u0100\"}}",
+            "/files/a",
+        ),
+        (
+            "{\"script\":\"\",\"files\":{\"..\":\"\\u0100\"}}",
+            "/files/..",
+        ),
+        (
+            "{\"script\":\"\",\"table\":[{\"name\":\"\\u0100\",\"answers\":[{}]}]}",
+            "/table/0/name",
+        ),
+        (
+            "{\"script\":\"\",\"table\":[{\"argv\":[\"\\u0000\"],\"answers\":[{}]}]}",
+            "/table/0/argv/0",
+        ),
+        (
+            "{\"script\":\"\",\"table\":[{\"name\":\"a\",\"input\":\"\\u0000\",\"answers\":[{}]}]}",
+            "/table/0/input",
+        ),
+        (
+            "{\"script\":\"\",\"table\":[{\"name\":\"a\",\"answers\":[{\"out\":\"\\u0100\"}]}]}",
+            "/table/0/answers/0/out",
+        ),
+        (
+            "{\"script\":\"\",\"table\":[{\"name\":\"a\",\"answers\":[{\"err\":\"\\u0000\"}]}]}",
+            "/table/0/answers/0/err",
+        ),
+        (
+            "{\"script\":\"\",\"latitude\":{\"last\":\"\\u0100\"}}",
+            "/latitude/last",
+        ),
     ];
     for (job, pointer) in table {
-        assert!(rt; is_refused(rt.alloc(), job, pointer, Reason::NotBytes)?, "{job}");
+        assert!(rt;
+            is_refused(rt.alloc(), job, pointer, Reason::NotBytes)?,
+            "{job}"
+        );
     }
     Ok(())
 }
@@ -177,20 +312,50 @@ fn numbers_and_words_out_of_range(rt: HostRuntime) -> Result<(), Fail> {
         ("{\"script\":\"\",\"turns\":4294967296}", "/turns"),
         ("{\"script\":\"\",\"depth\":33}", "/depth"),
         ("{\"script\":\"\",\"depth\":-1}", "/depth"),
-        ("{\"script\":\"\",\"latitude\":{\"redirect\":0}}", "/latitude/redirect"),
-        ("{\"script\":\"\",\"latitude\":{\"redirect\":126}}", "/latitude/redirect"),
-        ("{\"script\":\"\",\"latitude\":{\"redirect\":-1}}", "/latitude/redirect"),
-        ("{\"script\":\"\",\"latitude\":{\"last\":\"Current\"}}", "/latitude/last"),
-        ("{\"script\":\"\",\"latitude\":{\"last\":\"\"}}", "/latitude/last"),
-        ("{\"script\":\"\",\"latitude\":{\"last\":\"x\",\"redirect\":0}}", "/latitude/last"),
-        ("{\"script\":\"\",\"table\":[{\"name\":\"a\",\"answers\":[{},{\"status\":256}]}]}", "/table/0/answers/1/status"),
-        ("{\"script\":\"\",\"table\":[{\"name\":\"a\",\"answers\":[{\"status\":-1}]}]}", "/table/0/answers/0/status"),
+        (
+            "{\"script\":\"\",\"latitude\":{\"redirect\":0}}",
+            "/latitude/redirect",
+        ),
+        (
+            "{\"script\":\"\",\"latitude\":{\"redirect\":126}}",
+            "/latitude/redirect",
+        ),
+        (
+            "{\"script\":\"\",\"latitude\":{\"redirect\":-1}}",
+            "/latitude/redirect",
+        ),
+        (
+            "{\"script\":\"\",\"latitude\":{\"last\":\"Current\"}}",
+            "/latitude/last",
+        ),
+        (
+            "{\"script\":\"\",\"latitude\":{\"last\":\"\"}}",
+            "/latitude/last",
+        ),
+        (
+            "{\"script\":\"\",\"latitude\":{\"last\":\"x\",\"redirect\":0}}",
+            "/latitude/last",
+        ),
+        (
+            "{\"script\":\"\",\"table\":[{\"name\":\"a\",\"answers\":[{},{\"status\":256}]}]}",
+            "/table/0/answers/1/status",
+        ),
+        (
+            "{\"script\":\"\",\"table\":[{\"name\":\"a\",\"answers\":[{\"status\":-1}]}]}",
+            "/table/0/answers/0/status",
+        ),
         ("{\"script\":\"\",\"turns\":-1,\"depth\":-1}", "/turns"),
         ("{\"script\":\"\",\"latitude\":1,\"depth\":-1}", "/depth"),
-        ("{\"script\":\"\",\"table\":[{\"name\":\"a\",\"answers\":[{\"err\":0,\"out\":0,\"status\":-1}]}]}", "/table/0/answers/0/status"),
+        (
+            "{\"script\":\"\",\"table\":[{\"name\":\"a\",\"answers\":[{\"err\":0,\"out\":0,\"status\":-1}]}]}",
+            "/table/0/answers/0/status",
+        ),
     ];
     for (job, pointer) in table {
-        assert!(rt; is_refused(rt.alloc(), job, pointer, Reason::Range)?, "{job}");
+        assert!(rt;
+            is_refused(rt.alloc(), job, pointer, Reason::Range)?,
+            "{job}"
+        );
     }
     Ok(())
 }
@@ -199,12 +364,24 @@ fn numbers_and_words_out_of_range(rt: HostRuntime) -> Result<(), Fail> {
 fn lists_without_items(rt: HostRuntime) -> Result<(), Fail> {
     let table: [(&str, &str); 4] = [
         ("{\"script\":\"\",\"args\":[]}", "/args"),
-        ("{\"script\":\"\",\"table\":[{\"argv\":[],\"answers\":[{}]}]}", "/table/0/argv"),
-        ("{\"script\":\"\",\"table\":[{\"name\":\"a\",\"answers\":[]}]}", "/table/0/answers"),
-        ("{\"script\":\"\",\"args\":[],\"env\":[],\"stdin\":1}", "/args"),
+        (
+            "{\"script\":\"\",\"table\":[{\"argv\":[],\"answers\":[{}]}]}",
+            "/table/0/argv",
+        ),
+        (
+            "{\"script\":\"\",\"table\":[{\"name\":\"a\",\"answers\":[]}]}",
+            "/table/0/answers",
+        ),
+        (
+            "{\"script\":\"\",\"args\":[],\"env\":[],\"stdin\":1}",
+            "/args",
+        ),
     ];
     for (job, pointer) in table {
-        assert!(rt; is_refused(rt.alloc(), job, pointer, Reason::Empty)?, "{job}");
+        assert!(rt;
+            is_refused(rt.alloc(), job, pointer, Reason::Empty)?,
+            "{job}"
+        );
     }
     Ok(())
 }
@@ -216,7 +393,10 @@ fn scripts_that_are_too_long(rt: HostRuntime) -> Result<(), Fail> {
         ("{\"script\":\"\\u00e41234567890123456\"}", "/script"),
     ];
     for (job, pointer) in table {
-        assert!(rt; is_refused(rt.alloc(), job, pointer, Reason::TooLong)?, "{job}");
+        assert!(rt;
+            is_refused(rt.alloc(), job, pointer, Reason::TooLong)?,
+            "{job}"
+        );
     }
     Ok(())
 }
@@ -230,10 +410,16 @@ fn names_of_no_variable(rt: HostRuntime) -> Result<(), Fail> {
         ("{\"script\":\"\",\"env\":{\"a b\":\"\"}}", "/env/a b"),
         ("{\"script\":\"\",\"env\":{\"=\":\"\"}}", "/env/="),
         ("{\"script\":\"\",\"env\":{\"é\":\"\"}}", "/env/é"),
-        ("{\"script\":\"\",\"env\":{\"A\":\"\",\"a/b\":\"\"}}", "/env/a~1b"),
+        (
+            "{\"script\":\"\",\"env\":{\"A\":\"\",\"a/b\":\"\"}}",
+            "/env/a~1b",
+        ),
     ];
     for (job, pointer) in table {
-        assert!(rt; is_refused(rt.alloc(), job, pointer, Reason::Name)?, "{job}");
+        assert!(rt;
+            is_refused(rt.alloc(), job, pointer, Reason::Name)?,
+            "{job}"
+        );
     }
     Ok(())
 }
@@ -245,7 +431,10 @@ fn reserved_names(rt: HostRuntime) -> Result<(), Fail> {
         ("{\"script\":\"\",\"env\":{\"__bs_\":\"\"}}", "/env/__bs_"),
     ];
     for (job, pointer) in table {
-        assert!(rt; is_refused(rt.alloc(), job, pointer, Reason::Reserved)?, "{job}");
+        assert!(rt;
+            is_refused(rt.alloc(), job, pointer, Reason::Reserved)?,
+            "{job}"
+        );
     }
     Ok(())
 }
@@ -257,11 +446,17 @@ fn special_names(rt: HostRuntime) -> Result<(), Fail> {
         ("{\"script\":\"\",\"env\":{\"_\":\"\"}}", "/env/_"),
         ("{\"script\":\"\",\"env\":{\"PS1\":\"\"}}", "/env/PS1"),
         ("{\"script\":\"\",\"env\":{\"LC_ALL\":\"\"}}", "/env/LC_ALL"),
-        ("{\"script\":\"\",\"env\":{\"BASH_ENV\":\"\"}}", "/env/BASH_ENV"),
+        (
+            "{\"script\":\"\",\"env\":{\"BASH_ENV\":\"\"}}",
+            "/env/BASH_ENV",
+        ),
         ("{\"script\":\"\",\"env\":{\"RANDOM\":\"\"}}", "/env/RANDOM"),
     ];
     for (job, pointer) in table {
-        assert!(rt; is_refused(rt.alloc(), job, pointer, Reason::Special)?, "{job}");
+        assert!(rt;
+            is_refused(rt.alloc(), job, pointer, Reason::Special)?,
+            "{job}"
+        );
     }
     Ok(())
 }
@@ -274,14 +469,26 @@ fn texts_that_are_no_path(rt: HostRuntime) -> Result<(), Fail> {
         ("{\"script\":\"\",\"files\":{\".\":\"\"}}", "/files/."),
         ("{\"script\":\"\",\"files\":{\"..\":\"\"}}", "/files/.."),
         ("{\"script\":\"\",\"files\":{\"a/\":\"\"}}", "/files/a~1"),
-        ("{\"script\":\"\",\"files\":{\"a//b\":\"\"}}", "/files/a~1~1b"),
+        (
+            "{\"script\":\"\",\"files\":{\"a//b\":\"\"}}",
+            "/files/a~1~1b",
+        ),
         ("{\"script\":\"\",\"files\":{\"//a\":\"\"}}", "/files/~1~1a"),
-        ("{\"script\":\"\",\"files\":{\"a/./b\":\"\"}}", "/files/a~1.~1b"),
-        ("{\"script\":\"\",\"files\":{\"a/../b\":\"\"}}", "/files/a~1..~1b"),
+        (
+            "{\"script\":\"\",\"files\":{\"a/./b\":\"\"}}",
+            "/files/a~1.~1b",
+        ),
+        (
+            "{\"script\":\"\",\"files\":{\"a/../b\":\"\"}}",
+            "/files/a~1..~1b",
+        ),
         ("{\"script\":\"\",\"files\":{\"/..\":\"\"}}", "/files/~1.."),
     ];
     for (job, pointer) in table {
-        assert!(rt; is_refused(rt.alloc(), job, pointer, Reason::Path)?, "{job}");
+        assert!(rt;
+            is_refused(rt.alloc(), job, pointer, Reason::Path)?,
+            "{job}"
+        );
     }
     Ok(())
 }
@@ -289,15 +496,36 @@ fn texts_that_are_no_path(rt: HostRuntime) -> Result<(), Fail> {
 #[test]
 fn files_below_files(rt: HostRuntime) -> Result<(), Fail> {
     let table: [(&str, &str); 6] = [
-        ("{\"script\":\"\",\"files\":{\"a/b\":\"\",\"a\":\"\"}}", "/files/a~1b"),
-        ("{\"script\":\"\",\"files\":{\"a\":\"\",\"a!\":\"\",\"a/b/c\":\"\"}}", "/files/a~1b~1c"),
-        ("{\"script\":\"\",\"files\":{\"/a\":\"\",\"/a/b\":\"\"}}", "/files/~1a~1b"),
-        ("{\"script\":\"\",\"files\":{\"a/b\":\"\",\"a/b/c\":\"\",\"a/b/d\":\"\"}}", "/files/a~1b~1c"),
-        ("{\"script\":\"\",\"files\":{\"a~\":\"\",\"a~/b~\":\"\"}}", "/files/a~0~1b~0"),
-        ("{\"script\":\"\",\"files\":{\"\\u00e4\":\"\",\"\\u00e4/b\":\"\"}}", "/files/ä~1b"),
+        (
+            "{\"script\":\"\",\"files\":{\"a/b\":\"\",\"a\":\"\"}}",
+            "/files/a~1b",
+        ),
+        (
+            "{\"script\":\"\",\"files\":{\"a\":\"\",\"a!\":\"\",\"a/b/c\":\"\"}}",
+            "/files/a~1b~1c",
+        ),
+        (
+            "{\"script\":\"\",\"files\":{\"/a\":\"\",\"/a/b\":\"\"}}",
+            "/files/~1a~1b",
+        ),
+        (
+            "{\"script\":\"\",\"files\":{\"a/b\":\"\",\"a/b/c\":\"\",\"a/b/d\":\"\"}}",
+            "/files/a~1b~1c",
+        ),
+        (
+            "{\"script\":\"\",\"files\":{\"a~\":\"\",\"a~/b~\":\"\"}}",
+            "/files/a~0~1b~0",
+        ),
+        (
+            "{\"script\":\"\",\"files\":{\"\\u00e4\":\"\",\"\\u00e4/b\":\"\"}}",
+            "/files/ä~1b",
+        ),
     ];
     for (job, pointer) in table {
-        assert!(rt; is_refused(rt.alloc(), job, pointer, Reason::PathClash)?, "{job}");
+        assert!(rt;
+            is_refused(rt.alloc(), job, pointer, Reason::PathClash)?,
+            "{job}"
+        );
     }
     Ok(())
 }

@@ -76,18 +76,17 @@ fn files_of(
 {
     let mut files = List::new(alloc);
     for (key, member) in members.iter() {
-        files.push(within(alloc, key.as_bytes(), file(alloc, all, key.as_str(), member))?)?;
+        files.push(within(
+            alloc,
+            key.as_bytes(),
+            file(alloc, all, key.as_str(), member),
+        )?)?;
     }
     Ok(files)
 }
 
 /// The file of this path, one of the files.
-fn file(
-    alloc: Global,
-    files: &Value,
-    key: &str,
-    value: &Value,
-) -> Result<(Text, Text), JobFault>
+fn file(alloc: Global, files: &Value, key: &str, value: &Value) -> Result<(Text, Text), JobFault>
     ensures { judging.IsJudged (worlds.file_of (view files.now) key.now (view value.now)) result }
 {
     let contents = text(alloc, value)?;
@@ -95,12 +94,7 @@ fn file(
     file_at(alloc, clashes(files, key), path, contents)
 }
 
-fn file_at(
-    alloc: Global,
-    clash: bool,
-    path: Text,
-    contents: Text,
-) -> Result<(Text, Text), JobFault>
+fn file_at(alloc: Global, clash: bool, path: Text, contents: Text) -> Result<(Text, Text), JobFault>
     ensures { judging.IsJudged (worlds.file_at clash path contents) result }
 {
     if !is_path(path.bytes()) {
