@@ -1,5 +1,5 @@
 -- The value that bytes are.
-use Rattle.std.proofs.Common.{◌≡◌, ◌⊎◌, inl, inr, ℕ, [], Bool, true, false, cond, Option, Some, None, Result, Ok, Err, refl, sym, ap, ◌∙◌, subst}
+use Rattle.std.proofs.Common.{◌≡◌, ◌⊎◌, inl, inr, ℕ, [], Bool, true, false, cond, Option, Some, None, Result, Err, refl, sym, ap, ◌∙◌, subst}
 use Rattle.std.specs.Str.{IsUtf8, is_utf8}
 use Rattle.std.proofs.lemmas.Str.{is_utf8-from_IsUtf8, IsUtf8-from_is_utf8}
 use Rattle.serde_json.specs.Data.{Data}
@@ -9,7 +9,7 @@ use Rattle.world_json.specs.declared.fault.Reason.TheVariants as reason
 use Rattle.world_json.specs.declared.fault.JobFault.{JobFault}
 use Rattle.world_json.specs.declared.fault.JobFault.TheVariants as fault
 use Rattle.world_json.specs.declared.job.Job.{Job}
-use Rattle.world_json.specs.Judging.{Judged, Good, Bad, IsJudged}
+use Rattle.world_json.specs.Judging.{IsJudged}
 use Rattle.world_json.specs.Worlds.{value_of, value_job, job_of}
 use Rattle.world_json.proofs.Judging.{same_judged, refused_is}
 

@@ -1,5 +1,5 @@
 -- The world of a job that is read is a good one.
-use Rattle.std.proofs.Common.{◌≡◌, ◌≢◌, ℕ, ◌+◌, ◌≤◌, ◌<◌, ◌==◌, ◌&&◌, ◌||◌, not, nat_le, nat_lt, Bool, true, false, if◌then◌else◌, List, [], ◌∷◌, ◌++◌, map, length, codes, Option, Some, None, is_some, IfOk, Result, Ok, Err, Ordering, Less, Equal, Greater, refl, sym, ap, ap₂, ◌∙◌, subst, append_assoc, append-nil, arith}
+use Rattle.std.proofs.Common.{◌≡◌, ◌≢◌, ℕ, ◌<◌, ◌==◌, ◌&&◌, ◌||◌, not, nat_lt, Bool, true, false, if◌then◌else◌, List, [], ◌∷◌, ◌++◌, map, length, codes, Option, Some, None, is_some, Ordering, Less, Equal, Greater, refl, sym, ap, ◌∙◌, subst, append_assoc, append-nil, arith}
 use Rattle.std.proofs.lemmas.List.Elements.{All-from_recursion, recursion_from_All, All-weaker}
 use Rattle.std.proofs.lemmas.List.Sums.{AllPass-from_list_all}
 use Rattle.std.proofs.lemmas.Slice.Eq.{bytes_eq-Decides}
@@ -13,25 +13,23 @@ use Rattle.std.specs.Ordering.{nat_cmp, match_ordering}
 use Rattle.std.specs.Str.{chars}
 use Rattle.span_text.specs.Names.{is_name, is_reserved}
 use Rattle.span_text.specs.KnownNames.{same_text, is_special_name}
-use Rattle.serde_json.specs.Data.{Data, null, boolean, number, string, array, object, Members, no_members, member}
-use Rattle.serde_json.specs.Find.{get, get_member, as_str, as_number, as_object}
+use Rattle.serde_json.specs.Data.{Data, object, Members, no_members, member}
+use Rattle.serde_json.specs.Find.{get, get_member, as_str}
 use Rattle.shell_world.specs.Texts.{Text}
-use Rattle.shell_world.specs.World.{NoNul, Distinct, IsComponent, IsPath, IsFolderOf, AreFiles, IsVariable, IsKey, IsInput, IsAnswer, IsRow, IsGood, below_root}
-use Rattle.shell_world.specs.declared.world.Row.{Row}
-use Rattle.shell_world.specs.declared.world.World.{World}
+use Rattle.shell_world.specs.World.{NoNul, Distinct, IsComponent, IsPath, IsFolderOf, AreFiles, IsVariable, below_root}
 use Rattle.world_json.specs.declared.fault.Reason.{Reason}
 use Rattle.world_json.specs.declared.fault.Reason.TheVariants as reason
 use Rattle.world_json.specs.Texts.{characters}
-use Rattle.world_json.specs.Judging.{Judged, Good, Bad, refused, tested, stands_for_byte, bytes_of, bytes_from, text_of}
-use Rattle.world_json.specs.Worlds.{variable_named, variable_of, is_component, is_path, folders_from, clashes, file_at, file_of}
+use Rattle.world_json.specs.Judging.{refused, tested, stands_for_byte, bytes_of, bytes_from, text_of}
+use Rattle.world_json.specs.Worlds.{variable_of, is_component, is_path, folders_from, clashes, file_of}
 use Rattle.world_json.proofs.Holding.{Holds, holds_then, holds_tested, holds_more, Paired}
 use Rattle.world_json.proofs.Ordered.{Above, MembersOrdered, not_itself}
 
-first_true : (a b : Bool) → (a && b) ≡ true → a ≡ true
+pub first_true : (a b : Bool) → (a && b) ≡ true → a ≡ true
 first_true true b e = refl
 first_true false b e = e
 
-second_true : (a b : Bool) → (a && b) ≡ true → b ≡ true
+pub second_true : (a b : Bool) → (a && b) ≡ true → b ≡ true
 second_true true b e = e
 second_true false b e = absurd (false≢true e)
 

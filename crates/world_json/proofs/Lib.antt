@@ -7,3 +7,4 @@ pub mod Ordered
 pub mod Holding
 pub mod GoodWorlds
 pub mod ReadWorlds
+pub mod TextLaws

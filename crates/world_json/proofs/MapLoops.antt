@@ -1,11 +1,11 @@
 -- Loops over the members of an object, and the folders of a path.
-use Rattle.std.proofs.Common.{◌≡◌, ℕ, List, [], ◌∷◌, ◌++◌, Result, Ok, Err, refl, sym, ap, ◌∙◌, subst, append-nil, string_bytes}
-use Rattle.serde_json.specs.Data.{Data, member}
+use Rattle.std.proofs.Common.{◌≡◌, List, [], ◌∷◌, ◌++◌, Result, Err, sym, ap, ◌∙◌, subst, append-nil, string_bytes}
+use Rattle.serde_json.specs.Data.{Data}
 use Rattle.serde_json.specs.View.{view, members_view}
 use Rattle.serde_json.proofs.Views.{Entry}
 use Rattle.shell_world.specs.Texts.{Text}
 use Rattle.world_json.specs.declared.fault.JobFault.{JobFault}
-use Rattle.world_json.specs.Judging.{Judged, Good, Bad, IsJudged, and_then, within}
+use Rattle.world_json.specs.Judging.{Judged, Good, IsJudged, and_then, within}
 use Rattle.world_json.specs.Worlds.{pairs_of}
 use Rattle.world_json.proofs.Judging.{with_front, front_more, front_bad, same_judged}
 

@@ -1,25 +1,19 @@
 -- The world of each job that is read is a good one.
-use Rattle.std.proofs.Common.{◌≡◌, ◌≢◌, ℕ, ◌≤◌, nat_le, nat_lt, ◌&&◌, Bool, true, false, List, [], ◌∷◌, codes, Option, Some, None, IfOk, Result, Ok, Err, refl, sym, ap, ◌∙◌, subst, arith}
+use Rattle.std.proofs.Common.{◌≡◌, ◌≢◌, ℕ, ◌≤◌, nat_le, nat_lt, ◌&&◌, Bool, true, false, [], ◌∷◌, codes, Option, Some, None, IfOk, Result, Ok, Err, refl, subst, arith}
 use Rattle.std.proofs.lemmas.List.Elements.{All-from_recursion}
 use Rattle.std.proofs.lemmas.Bool.Decides.{nat_tests}
 use Rattle.std.specs.List.{AllByRecursion}
 use Rattle.serde_json.specs.Data.{Num, unsigned, negative, float, Data, null, boolean, number, string, array, object, Members}
 use Rattle.serde_json.specs.Find.{get, as_number, as_object}
-use Rattle.serde_json.specs.Read.{read}
 use Rattle.shell_world.specs.Texts.{Text}
 use Rattle.shell_world.specs.World.{NoNul, IsKey, IsInput, IsAnswer, IsRow, IsGood}
-use Rattle.shell_world.specs.declared.world.Row.{Row}
-use Rattle.shell_world.specs.declared.world.Answer.{Answer}
-use Rattle.shell_world.specs.declared.world.RowKey.{RowKey}
-use Rattle.shell_world.specs.declared.world.RowInput.{RowInput}
 use Rattle.shell_world.specs.declared.world.RowInput.TheVariants.{Nothing}
 use Rattle.shell_world.specs.declared.world.Latitude.{Latitude}
-use Rattle.shell_world.specs.declared.world.World.{World}
 use Rattle.world_json.specs.declared.fault.Reason.TheVariants as reason
 use Rattle.world_json.specs.declared.fault.JobFault.{JobFault}
 use Rattle.world_json.specs.declared.job.Job.{Job}
-use Rattle.world_json.specs.Judging.{Judged, Good, Bad, IsJudged, and_then, bytes_of, text_of, number_of, number_from, list_of, some_of, only, wanted, member_or}
-use Rattle.world_json.specs.Worlds.{variable_of, environment_of, pairs_from, file_of, files_of, answer_of, exactly, input_of, is_named, row_members, key_of, row_of, bounds_of, last_of, latitude_of, usual_latitude, job_members, script_of, world_of, members_job, object_job, value_job}
+use Rattle.world_json.specs.Judging.{Judged, IsJudged, bytes_of, text_of, number_of, number_from, list_of, some_of, only, wanted, member_or}
+use Rattle.world_json.specs.Worlds.{variable_of, environment_of, pairs_from, file_of, files_of, answer_of, input_of, is_named, row_members, key_of, row_of, bounds_of, last_of, latitude_of, usual_latitude, job_members, script_of, world_of, members_job, object_job, value_job}
 use Rattle.world_json.proofs.Holding.{Holds, anything, holds_then, holds_tested, holds_more, holds_or, holds_wanted, holds_list, holds_some, holds_pairs, SomeItems, Paired}
 use Rattle.world_json.proofs.Ordered.{Ordered, MembersOrdered, Each, get_ordered, object_ordered}
 use Rattle.world_json.proofs.GoodWorlds.{AreBytes, bytes_hold, text_holds, Named, variable_holds, Filed, file_holds, GoodFiles, files_good, GoodEnvironment, environment_good}

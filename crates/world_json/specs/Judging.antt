@@ -1,5 +1,5 @@
 -- What a field of a job is: a good value, or the pointer to its first bad field with the reason.
-use Rattle.std.specs.Prelude.{◌≡◌, ℕ, ◌+◌, ◌==◌, ◌&&◌, nat_le, Bool, true, false, if◌then◌else◌, List, [], ◌∷◌, ◌++◌, codes, decimal, Option, Some, None, Result, Ok, Err, IsTrue}
+use Rattle.std.specs.Prelude.{◌≡◌, ◌↔◌, ℕ, ◌+◌, ◌==◌, ◌&&◌, nat_le, Bool, true, if◌then◌else◌, List, [], ◌∷◌, ◌++◌, codes, decimal, Option, Some, None, Result, Ok, Err}
 use Rattle.std.specs.List.{flat_map, list_all}
 use Rattle.std.specs.Str.{chars}
 use Rattle.span_text.specs.KnownNames.{same_text, is_among}
@@ -72,6 +72,10 @@ stands_for_byte c = nat_le 1 c && nat_le c 255
 -- the bytes whose characters the text has
 abbrev pub bytes_of : Text → Judged Text
 bytes_of s = tested (list_all stands_for_byte (chars s) && same_text (characters (chars s)) s) reason.NotBytes (chars s)
+
+-- what is written of bytes is read as them, and nothing else is: the bytes of a good text are from 1 to 255, and the text is their characters
+abbrev pub TextsAreCharacters : Type 0
+TextsAreCharacters = (s t : Text) → (bytes_of s ≡ Good t) ↔ ((list_all stands_for_byte t ≡ true) × (characters t ≡ s))
 
 abbrev pub bytes_from : Option Text → Judged Text
 bytes_from None = refused reason.WrongType

@@ -1,5 +1,5 @@
 -- The worlds that jobs give.
-use Rattle.std.specs.Prelude.{ℕ, ◌+◌, ◌==◌, ◌&&◌, ◌||◌, not, nat_le, nat_lt, Bool, true, false, if◌then◌else◌, List, [], ◌∷◌, ◌++◌, length, codes, Option, Some, None, is_some}
+use Rattle.std.specs.Prelude.{ℕ, ◌==◌, ◌&&◌, ◌||◌, not, nat_le, nat_lt, Bool, true, false, if◌then◌else◌, List, [], ◌∷◌, ◌++◌, length, codes, Option, Some, None, is_some}
 use Rattle.std.specs.List.{slice_split, list_all, list_any}
 use Rattle.std.specs.Str.{is_utf8}
 use Rattle.span_text.specs.Names.{is_name, is_reserved}
@@ -20,7 +20,7 @@ use Rattle.shell_world.specs.declared.world.RowInput.{RowInput}
 use Rattle.shell_world.specs.declared.world.RowInput.TheVariants.{Nothing, Any, Exactly}
 use Rattle.world_json.specs.declared.job.Job.{Job}
 use Rattle.world_json.specs.declared.fault.Reason.TheVariants as reason
-use Rattle.world_json.specs.Judging.{Judged, Good, Bad, refused, and_then, tested, within, bytes_of, text_of, number_of, list_of, some_of, only, wanted, member_or}
+use Rattle.world_json.specs.Judging.{Judged, Good, refused, and_then, tested, within, bytes_of, text_of, number_of, list_of, some_of, only, wanted, member_or}
 
 -- ---- the environment, in the order of its names
 
@@ -52,12 +52,12 @@ is_component part = not (same_text [] part || same_text (codes ".") part || same
 abbrev pub is_path : Text → Bool
 is_path path = list_all is_component (slice_split (λ b. b == 47) (below_root path))
 
--- the folders of what goes on so behind a front
+-- the folders of a path, of which a front was passed: its fronts that aren't empty and stand before a `/`
 abbrev pub folders_from : Text → Text → List Text
 folders_from front [] = []
 folders_from front (b ∷ path) = if b == 47 && nat_lt 0 (length front) then front ∷ folders_from (front ++ b ∷ []) path else folders_from (front ++ b ∷ []) path
 
--- another file is a folder of this path
+-- another file is a folder of this path; in UTF-8 a `/` is one byte, so the two keys are compared as they are written
 abbrev pub clashes : Data → Text → Bool
 clashes files path = list_any (λ folder. is_some (get folder files)) (folders_from [] path)
 

@@ -37,6 +37,12 @@ pub(crate) fn bytes(alloc: Global, text: &str) -> Result<Text, JobFault>
     Ok(Text::from_vec(bytes))
 }
 
+/// What is written of bytes from 1 to 255 is read as them, and no other text is read.
+#[tactic(auto, using(crate::proofs::TextLaws::texts_are))]
+pub fn texts_are_characters()
+    ensures { judging.TextsAreCharacters }
+{}
+
 /// The byte of the character's number.
 fn byte_of(character: char) -> Option<u8>
     ensures { MatchOption result (judging.stands_for_byte character ≡ false)

@@ -1,531 +1,207 @@
 use super::*;
+use crate::samples::{pairs_of, texts_of};
 use shell_world::{Answer, Bounds, Latitude, Row, RowInput, RowKey, World};
 use span_text::{List, Memory, Text};
 use std::alloc::Global;
 use std::test::Fail;
 
-/// The most bytes of a script in these tests.
-const LIMIT: u32 = 16;
+/// The world of a job that has a script alone.
+fn plain(alloc: Global) -> Result<World, Memory> {
+    Ok(World {
+        args: texts_of(alloc, &[b"script"])?,
+        env: List::new(alloc),
+        files: List::new(alloc),
+        rows: List::new(alloc),
+        stdin: Text::new(alloc),
+        bounds: Bounds {
+            turns: 100_000,
+            depth: 32,
+        },
+        latitude: Latitude {
+            last_current: false,
+            redirect: 1,
+        },
+    })
+}
 
-fn is_refused(alloc: Global, job: &str, pointer: &str, reason: Reason) -> Result<bool, Fail> {
-    let pointer = Text::copy(alloc, pointer.as_bytes())?;
-    Ok(read(alloc, job.as_bytes(), LIMIT) == Err(JobFault::BadWorld(pointer, reason)))
+fn answer(alloc: Global, status: u8, out: &[u8], err: &[u8]) -> Result<Answer, Memory> {
+    Ok(Answer {
+        status,
+        out: Text::copy(alloc, out)?,
+        err: Text::copy(alloc, err)?,
+    })
+}
+
+/// Whether the bytes are the job of this script and world.
+fn is_job(alloc: Global, bytes: &[u8], script: &[u8], world: World) -> Result<bool, Memory> {
+    let job = Job {
+        script: Text::copy(alloc, script)?,
+        world,
+    };
+    Ok(read(alloc, bytes, 1_048_576) == Ok(job))
 }
 
 #[test]
-fn no_object(rt: HostRuntime) -> Result<(), Fail> {
-    let table: [(&str, &str); 10] = [
-        ("", ""),
-        ("{", ""),
-        ("[]", ""),
-        ("\"a\"", ""),
-        ("null", ""),
-        ("{\"script\":\"\"} x", ""),
-        ("{\"script\":\"\\ud800\"}", ""),
-        ("{\"script\":\"\",}", ""),
-        ("{\"turns\":1e999,\"script\":\"\"}", ""),
-        ("{\"script\":\"\tq\"}", ""),
-    ];
-    for (job, pointer) in table {
-        assert!(rt;
-            is_refused(rt.alloc(), job, pointer, Reason::Json)?,
-            "{job}"
-        );
-    }
+fn a_script_alone_is_a_job(rt: HostRuntime) -> Result<(), Fail> {
+    let world = plain(rt.alloc())?;
+    assert!(rt; is_job(rt.alloc(), b"{\"script\":\"\"}", b"", world)?);
+    let world = plain(rt.alloc())?;
+    let bytes: &[u8] = b" {\n\t\"script\" : \"show \\\"a\\\"\\n\" } \r\n";
+    assert!(rt; is_job(rt.alloc(), bytes, b"show \"a\"\n", world)?);
+    let world = plain(rt.alloc())?;
+    let bytes: &[u8] =
+        b"{\"script\":\"\",\"table\":[],\"env\":{},\"files\":{},\"latitude\":{},\"stdin\":\"\"}";
+    assert!(rt; is_job(rt.alloc(), bytes, b"", world)?);
+    Ok(())
+}
+
+/// As `serde_json` has it, the last of two members of one name counts.
+#[test]
+fn the_last_of_two_members_counts(rt: HostRuntime) -> Result<(), Fail> {
+    let mut world = plain(rt.alloc())?;
+    world.env = pairs_of(rt.alloc(), &[(b"a", b"2")])?;
+    let bytes: &[u8] = b"{\"script\":1,\"env\":{\"a\":1,\"a\":\"2\"},\"script\":\"x\"}";
+    assert!(rt; is_job(rt.alloc(), bytes, b"x", world)?);
     Ok(())
 }
 
 #[test]
-fn unknown_members(rt: HostRuntime) -> Result<(), Fail> {
-    let table: [(&str, &str); 15] = [
-        ("{\"script\":\"\",\"scripts\":\"\"}", "/scripts"),
-        ("{\"zz\":1,\"script\":1}", "/zz"),
-        ("{\"zz\":1,\"b\":1,\"B\":1,\"script\":\"\"}", "/B"),
-        ("{\"\":1,\"script\":\"\"}", "/"),
-        ("{\"a~b/c\":1,\"script\":\"\"}", "/a~0b~1c"),
-        ("{\"\\u00e4\":1,\"script\":\"\"}", "/ä"),
-        ("{\"\\u20ac\\n\":1,\"script\":\"\"}", "/€\n"),
-        ("{\"\\ud83d\\ude00\":1,\"script\":\"\"}", "/😀"),
-        (
-            "{\"script\":\"\",\"latitude\":{\"Last\":\"current\",\"redirect\":0}}",
-            "/latitude/Last",
-        ),
-        (
-            "{\"script\":\"\",\"table\":[{\"name\":\"a\",\"answers\":[{}],\"x\":1}]}",
-            "/table/0/x",
-        ),
-        (
-            "{\"script\":\"\",\"table\":[{\"name\":\"a\",\"argv\":[\"a\"],\"answers\":[{}]}]}",
-            "/table/0/name",
-        ),
-        (
-            "{\"script\":\"\",\"table\":[{\"name\":\"a\",\"argv\":[\"a\"],\"answers\":[{}],\"zz\":0}]}",
-            "/table/0/name",
-        ),
-        (
-            "{\"script\":\"\",\"table\":[{\"name\":\"a\",\"argv\":[\"a\"],\"answers\":[{}],\"a\":0}]}",
-            "/table/0/a",
-        ),
-        (
-            "{\"script\":\"\",\"table\":[{\"name\":\"a\",\"answers\":[{\"status\":0,\"stdout\":\"\"}]}]}",
-            "/table/0/answers/0/stdout",
-        ),
-        (
-            "{\"script\":\"\",\"table\":[{\"name\":\"a\",\"answers\":[{},{\"~\":0}]}]}",
-            "/table/0/answers/1/~0",
-        ),
-    ];
-    for (job, pointer) in table {
-        assert!(rt;
-            is_refused(rt.alloc(), job, pointer, Reason::Unknown)?,
-            "{job}"
-        );
-    }
+fn characters_stand_for_bytes(rt: HostRuntime) -> Result<(), Fail> {
+    let mut world = plain(rt.alloc())?;
+    world.stdin = Text::copy(rt.alloc(), b"\x80\xe4\xff")?;
+    world.files = pairs_of(rt.alloc(), &[(b"\xe4", b"\x7f")])?;
+    let bytes: &[u8] =
+        b"{\"script\":\"\\u0001\\u007F\\u0080\\u00ff\",\"stdin\":\"\xc2\x80\xc3\xa4\xc3\xbf\",\"files\":{\"\xc3\xa4\":\"\x7f\"}}";
+    assert!(rt; is_job(rt.alloc(), bytes, b"\x01\x7f\x80\xff", world)?);
+    texts_are_characters();
     Ok(())
 }
 
 #[test]
-fn missing_members(rt: HostRuntime) -> Result<(), Fail> {
-    let table: [(&str, &str); 6] = [
-        ("{}", "/script"),
-        ("{\"args\":[]}", "/script"),
-        ("{\"script\":\"\",\"table\":[{}]}", "/table/0/argv"),
-        (
-            "{\"script\":\"\",\"table\":[{\"answers\":[{}]}]}",
-            "/table/0/argv",
-        ),
-        (
-            "{\"script\":\"\",\"table\":[{\"name\":\"a\"}]}",
-            "/table/0/answers",
-        ),
-        (
-            "{\"script\":\"\",\"table\":[{\"name\":\"a\",\"answers\":[{}]},{\"argv\":[\"a\"]}]}",
-            "/table/1/answers",
-        ),
-    ];
-    for (job, pointer) in table {
-        assert!(rt;
-            is_refused(rt.alloc(), job, pointer, Reason::Missing)?,
-            "{job}"
-        );
-    }
+fn names_and_paths_stand_in_order(rt: HostRuntime) -> Result<(), Fail> {
+    let mut world = plain(rt.alloc())?;
+    world.args = texts_of(rt.alloc(), &[b"", b"-v", b""])?;
+    world.env = pairs_of(
+        rt.alloc(),
+        &[(b"A", b"1"), (b"Z_9", b""), (b"a", b"0"), (b"ab", b"=")],
+    )?;
+    world.files = pairs_of(
+        rt.alloc(),
+        &[
+            (b"...", b""),
+            (b"/a", b"1"),
+            (b"/dev/null", b""),
+            (b"a!b", b""),
+            (b"a/b", b"2"),
+            (b"a/b c", b""),
+            (b"ab", b""),
+            (b"~/.x", b"~"),
+        ],
+    )?;
+    let bytes: &[u8] =
+        b"{\"script\":\"\",\"args\":[\"\",\"-v\",\"\"],\"env\":{\"ab\":\"=\",\"a\":\"0\",\"Z_9\":\"\",\"A\":\"1\"},\"files\":{\"~/.x\":\"~\",\"ab\":\"\",\"a/b c\":\"\",\"a/b\":\"2\",\"a!b\":\"\",\"/dev/null\":\"\",\"/a\":\"1\",\"...\":\"\"}}";
+    assert!(rt; is_job(rt.alloc(), bytes, b"", world)?);
     Ok(())
 }
 
 #[test]
-fn values_of_another_type(rt: HostRuntime) -> Result<(), Fail> {
-    let table: [(&str, &str); 56] = [
-        ("{\"script\":1}", "/script"),
-        ("{\"script\":null}", "/script"),
-        ("{\"script\":[]}", "/script"),
-        ("{\"script\":{}}", "/script"),
-        ("{\"script\":true}", "/script"),
-        ("{\"script\":\"\",\"args\":\"a\"}", "/args"),
-        ("{\"script\":\"\",\"args\":{}}", "/args"),
-        ("{\"script\":\"\",\"args\":null}", "/args"),
-        ("{\"script\":\"\",\"args\":[\"a\",1]}", "/args/1"),
-        ("{\"script\":\"\",\"env\":[]}", "/env"),
-        ("{\"script\":\"\",\"env\":{\"a\":1}}", "/env/a"),
-        ("{\"script\":\"\",\"env\":{\"\":null}}", "/env/"),
-        ("{\"script\":\"\",\"env\":{\"a~/b\":1}}", "/env/a~0~1b"),
-        ("{\"script\":\"\",\"stdin\":1}", "/stdin"),
-        ("{\"script\":\"\",\"files\":[]}", "/files"),
-        ("{\"script\":\"\",\"files\":{\"a/b\":[]}}", "/files/a~1b"),
-        ("{\"script\":\"\",\"files\":{\"\\u0100\":[]}}", "/files/Ā"),
-        ("{\"script\":\"\",\"table\":{}}", "/table"),
-        ("{\"script\":\"\",\"table\":[1]}", "/table/0"),
+fn rows_have_keys_inputs_and_answers(rt: HostRuntime) -> Result<(), Fail> {
+    let alloc = rt.alloc();
+    let mut world = plain(alloc)?;
+    let mut answers = List::new(alloc);
+    answers.push(answer(alloc, 0, b"", b"")?)?;
+    world.rows.push(Row {
+        key: RowKey::Name(Text::copy(alloc, b"")?),
+        input: RowInput::Nothing,
+        answers,
+    })?;
+    let mut answers = List::new(alloc);
+    answers.push(answer(alloc, 255, b"o", b"")?)?;
+    answers.push(answer(alloc, 0, b"", b"e\n")?)?;
+    world.rows.push(Row {
+        key: RowKey::Whole(texts_of(alloc, &[b"cat", b""])?),
+        input: RowInput::Any,
+        answers,
+    })?;
+    let mut answers = List::new(alloc);
+    answers.push(answer(alloc, 1, b"", b"")?)?;
+    world.rows.push(Row {
+        key: RowKey::Name(Text::copy(alloc, b"show")?),
+        input: RowInput::Exactly(Text::copy(alloc, b"")?),
+        answers,
+    })?;
+    let bytes: &[u8] =
+        b"{\"script\":\"\",\"table\":[{\"name\":\"\",\"input\":null,\"answers\":[{}]},{\"argv\":[\"cat\",\"\"],\"input\":true,\"answers\":[{\"status\":255,\"out\":\"o\"},{\"err\":\"e\\n\"}]},{\"name\":\"show\",\"input\":\"\",\"answers\":[{\"status\":1}]}]}";
+    assert!(rt; is_job(alloc, bytes, b"", world)?);
+    Ok(())
+}
+
+fn bounded(alloc: Global, turns: u32, depth: u32) -> Result<World, Memory> {
+    let mut world = plain(alloc)?;
+    world.bounds = Bounds { turns, depth };
+    Ok(world)
+}
+
+fn latitude(alloc: Global, last_current: bool, redirect: u8) -> Result<World, Memory> {
+    let mut world = plain(alloc)?;
+    world.latitude = Latitude {
+        last_current,
+        redirect,
+    };
+    Ok(world)
+}
+
+#[test]
+fn numbers_reach_their_limits(rt: HostRuntime) -> Result<(), Fail> {
+    let table: [(&[u8], u32, u32); 3] = [
+        (b"{\"script\":\"\",\"turns\":0,\"depth\":0}", 0, 0),
         (
-            "{\"script\":\"\",\"table\":[{\"name\":1,\"answers\":[{}]}]}",
-            "/table/0/name",
+            b"{\"script\":\"\",\"turns\":10000000,\"depth\":32}",
+            10_000_000,
+            32,
+        ),
+        (b"{\"script\":\"\",\"depth\":1}", 100_000, 1),
+    ];
+    for (bytes, turns, depth) in table {
+        let world = bounded(rt.alloc(), turns, depth)?;
+        assert!(rt; is_job(rt.alloc(), bytes, b"", world)?);
+    }
+    let table: [(&[u8], bool, u8); 4] = [
+        (
+            b"{\"script\":\"\",\"latitude\":{\"redirect\":125}}",
+            false,
+            125,
         ),
         (
-            "{\"script\":\"\",\"table\":[{\"argv\":\"a\",\"answers\":[{}]}]}",
-            "/table/0/argv",
+            b"{\"script\":\"\",\"latitude\":{\"last\":\"current\"}}",
+            true,
+            1,
         ),
         (
-            "{\"script\":\"\",\"table\":[{\"argv\":[\"a\",null],\"answers\":[{}]}]}",
-            "/table/0/argv/1",
+            b"{\"script\":\"\",\"latitude\":{\"last\":\"subshell\",\"redirect\":1}}",
+            false,
+            1,
         ),
         (
-            "{\"script\":\"\",\"table\":[{\"name\":\"a\",\"input\":false,\"answers\":[{}]}]}",
-            "/table/0/input",
-        ),
-        (
-            "{\"script\":\"\",\"table\":[{\"name\":\"a\",\"input\":0,\"answers\":[{}]}]}",
-            "/table/0/input",
-        ),
-        (
-            "{\"script\":\"\",\"table\":[{\"name\":\"a\",\"input\":[],\"answers\":[{}]}]}",
-            "/table/0/input",
-        ),
-        (
-            "{\"script\":\"\",\"table\":[{\"name\":\"a\",\"input\":{},\"answers\":[{}]}]}",
-            "/table/0/input",
-        ),
-        (
-            "{\"script\":\"\",\"table\":[{\"name\":\"a\",\"input\":1.5,\"answers\":[{}]}]}",
-            "/table/0/input",
-        ),
-        (
-            "{\"script\":\"\",\"table\":[{\"name\":\"a\",\"answers\":{}}]}",
-            "/table/0/answers",
-        ),
-        (
-            "{\"script\":\"\",\"table\":[{\"name\":\"a\",\"answers\":[[]]}]}",
-            "/table/0/answers/0",
-        ),
-        (
-            "{\"script\":\"\",\"table\":[{\"name\":\"a\",\"answers\":[{\"status\":\"0\"}]}]}",
-            "/table/0/answers/0/status",
-        ),
-        (
-            "{\"script\":\"\",\"table\":[{\"name\":\"a\",\"answers\":[{\"status\":0.0}]}]}",
-            "/table/0/answers/0/status",
-        ),
-        (
-            "{\"script\":\"\",\"table\":[{\"name\":\"a\",\"answers\":[{\"out\":0}]}]}",
-            "/table/0/answers/0/out",
-        ),
-        (
-            "{\"script\":\"\",\"table\":[{\"name\":\"a\",\"answers\":[{\"err\":[]}]}]}",
-            "/table/0/answers/0/err",
-        ),
-        ("{\"script\":\"\",\"turns\":\"1\"}", "/turns"),
-        ("{\"script\":\"\",\"turns\":null}", "/turns"),
-        ("{\"script\":\"\",\"turns\":1.5}", "/turns"),
-        ("{\"script\":\"\",\"turns\":-0}", "/turns"),
-        ("{\"script\":\"\",\"turns\":18446744073709551616}", "/turns"),
-        ("{\"script\":\"\",\"turns\":1e3}", "/turns"),
-        ("{\"script\":\"\",\"turns\":-9223372036854775809}", "/turns"),
-        ("{\"script\":\"\",\"depth\":[]}", "/depth"),
-        ("{\"script\":\"\",\"depth\":3.0}", "/depth"),
-        ("{\"script\":\"\",\"latitude\":1}", "/latitude"),
-        ("{\"script\":\"\",\"latitude\":[]}", "/latitude"),
-        (
-            "{\"script\":\"\",\"latitude\":{\"last\":true}}",
-            "/latitude/last",
-        ),
-        (
-            "{\"script\":\"\",\"latitude\":{\"redirect\":\"1\"}}",
-            "/latitude/redirect",
-        ),
-        (
-            "{\"script\":1,\"args\":[],\"env\":[],\"stdin\":1}",
-            "/script",
-        ),
-        ("{\"script\":\"\",\"env\":[],\"stdin\":1}", "/env"),
-        ("{\"script\":\"\",\"files\":1,\"stdin\":1}", "/stdin"),
-        ("{\"script\":\"\",\"files\":1,\"table\":1}", "/files"),
-        ("{\"script\":\"\",\"turns\":-1,\"table\":1}", "/table"),
-        ("{\"script\":\"\",\"env\":{\"b\":1,\"a\":1}}", "/env/a"),
-        ("{\"script\":\"\",\"env\":{\"a\":1,\"Z\":1}}", "/env/Z"),
-        (
-            "{\"script\":\"\",\"table\":[{\"name\":1,\"input\":0,\"answers\":0}]}",
-            "/table/0/name",
-        ),
-        (
-            "{\"script\":\"\",\"table\":[{\"name\":\"\",\"input\":0,\"answers\":0}]}",
-            "/table/0/input",
-        ),
-        (
-            "{\"script\":\"\",\"table\":[{\"name\":\"a\",\"answers\":[{\"err\":0,\"out\":0}]}]}",
-            "/table/0/answers/0/out",
+            b"{\"script\":\"\",\"latitude\":{\"last\":\"current\",\"redirect\":77}}",
+            true,
+            77,
         ),
     ];
-    for (job, pointer) in table {
-        assert!(rt;
-            is_refused(rt.alloc(), job, pointer, Reason::WrongType)?,
-            "{job}"
-        );
+    for (bytes, last_current, redirect) in table {
+        let world = latitude(rt.alloc(), last_current, redirect)?;
+        assert!(rt; is_job(rt.alloc(), bytes, b"", world)?);
     }
     Ok(())
 }
 
+/// A script has as many bytes as the limit at most, however many the JSON has.
 #[test]
-fn characters_that_stand_for_no_byte(rt: HostRuntime) -> Result<(), Fail> {
-    let table: [(&str, &str); 18] = [
-        ("{\"script\":\"a\\u0100\"}", "/script"),
-        ("{\"script\":\"\\u0000\"}", "/script"),
-        ("{\"script\":\"\\ud83d\\ude00\"}", "/script"),
-        ("{\"script\":\"€\"}", "/script"),
-        (
-            "{\"script\":\"\",\"args\":[\"a\",\"b\",\"\\u0000\"]}",
-            "/args/2",
-        ),
-        ("{\"script\":\"\",\"env\":{\"\\u0101\":\"a\"}}", "/env/ā"),
-        ("{\"script\":\"\",\"env\":{\"a\":\"\\u0000\"}}", "/env/a"),
-        ("{\"script\":\"\",\"env\":{\"1\":\"\\u0100\"}}", "/env/1"),
-        ("{\"script\":\"\",\"stdin\":\"\\u07ff\"}", "/stdin"),
-        (
-            "{\"script\":\"\",\"files\":{\"a\\u0000\":\"\"}}",
-            "/files/a\0",
-        ),
-        (
-            "{\"script\":\"\",\"files\":{\"a\":\"\\u0100\"}}",
-            "/files/a",
-        ),
-        (
-            "{\"script\":\"\",\"files\":{\"..\":\"\\u0100\"}}",
-            "/files/..",
-        ),
-        (
-            "{\"script\":\"\",\"table\":[{\"name\":\"\\u0100\",\"answers\":[{}]}]}",
-            "/table/0/name",
-        ),
-        (
-            "{\"script\":\"\",\"table\":[{\"argv\":[\"\\u0000\"],\"answers\":[{}]}]}",
-            "/table/0/argv/0",
-        ),
-        (
-            "{\"script\":\"\",\"table\":[{\"name\":\"a\",\"input\":\"\\u0000\",\"answers\":[{}]}]}",
-            "/table/0/input",
-        ),
-        (
-            "{\"script\":\"\",\"table\":[{\"name\":\"a\",\"answers\":[{\"out\":\"\\u0100\"}]}]}",
-            "/table/0/answers/0/out",
-        ),
-        (
-            "{\"script\":\"\",\"table\":[{\"name\":\"a\",\"answers\":[{\"err\":\"\\u0000\"}]}]}",
-            "/table/0/answers/0/err",
-        ),
-        (
-            "{\"script\":\"\",\"latitude\":{\"last\":\"\\u0100\"}}",
-            "/latitude/last",
-        ),
-    ];
-    for (job, pointer) in table {
-        assert!(rt;
-            is_refused(rt.alloc(), job, pointer, Reason::NotBytes)?,
-            "{job}"
-        );
-    }
-    Ok(())
-}
-
-#[test]
-fn numbers_and_words_out_of_range(rt: HostRuntime) -> Result<(), Fail> {
-    let table: [(&str, &str); 18] = [
-        ("{\"script\":\"\",\"turns\":10000001}", "/turns"),
-        ("{\"script\":\"\",\"turns\":-1}", "/turns"),
-        ("{\"script\":\"\",\"turns\":18446744073709551615}", "/turns"),
-        ("{\"script\":\"\",\"turns\":-9223372036854775808}", "/turns"),
-        ("{\"script\":\"\",\"turns\":4294967296}", "/turns"),
-        ("{\"script\":\"\",\"depth\":33}", "/depth"),
-        ("{\"script\":\"\",\"depth\":-1}", "/depth"),
-        (
-            "{\"script\":\"\",\"latitude\":{\"redirect\":0}}",
-            "/latitude/redirect",
-        ),
-        (
-            "{\"script\":\"\",\"latitude\":{\"redirect\":126}}",
-            "/latitude/redirect",
-        ),
-        (
-            "{\"script\":\"\",\"latitude\":{\"redirect\":-1}}",
-            "/latitude/redirect",
-        ),
-        (
-            "{\"script\":\"\",\"latitude\":{\"last\":\"Current\"}}",
-            "/latitude/last",
-        ),
-        (
-            "{\"script\":\"\",\"latitude\":{\"last\":\"\"}}",
-            "/latitude/last",
-        ),
-        (
-            "{\"script\":\"\",\"latitude\":{\"last\":\"x\",\"redirect\":0}}",
-            "/latitude/last",
-        ),
-        (
-            "{\"script\":\"\",\"table\":[{\"name\":\"a\",\"answers\":[{},{\"status\":256}]}]}",
-            "/table/0/answers/1/status",
-        ),
-        (
-            "{\"script\":\"\",\"table\":[{\"name\":\"a\",\"answers\":[{\"status\":-1}]}]}",
-            "/table/0/answers/0/status",
-        ),
-        ("{\"script\":\"\",\"turns\":-1,\"depth\":-1}", "/turns"),
-        ("{\"script\":\"\",\"latitude\":1,\"depth\":-1}", "/depth"),
-        (
-            "{\"script\":\"\",\"table\":[{\"name\":\"a\",\"answers\":[{\"err\":0,\"out\":0,\"status\":-1}]}]}",
-            "/table/0/answers/0/status",
-        ),
-    ];
-    for (job, pointer) in table {
-        assert!(rt;
-            is_refused(rt.alloc(), job, pointer, Reason::Range)?,
-            "{job}"
-        );
-    }
-    Ok(())
-}
-
-#[test]
-fn lists_without_items(rt: HostRuntime) -> Result<(), Fail> {
-    let table: [(&str, &str); 4] = [
-        ("{\"script\":\"\",\"args\":[]}", "/args"),
-        (
-            "{\"script\":\"\",\"table\":[{\"argv\":[],\"answers\":[{}]}]}",
-            "/table/0/argv",
-        ),
-        (
-            "{\"script\":\"\",\"table\":[{\"name\":\"a\",\"answers\":[]}]}",
-            "/table/0/answers",
-        ),
-        (
-            "{\"script\":\"\",\"args\":[],\"env\":[],\"stdin\":1}",
-            "/args",
-        ),
-    ];
-    for (job, pointer) in table {
-        assert!(rt;
-            is_refused(rt.alloc(), job, pointer, Reason::Empty)?,
-            "{job}"
-        );
-    }
-    Ok(())
-}
-
-#[test]
-fn scripts_that_are_too_long(rt: HostRuntime) -> Result<(), Fail> {
-    let table: [(&str, &str); 2] = [
-        ("{\"script\":\"12345678901234567\"}", "/script"),
-        ("{\"script\":\"\\u00e41234567890123456\"}", "/script"),
-    ];
-    for (job, pointer) in table {
-        assert!(rt;
-            is_refused(rt.alloc(), job, pointer, Reason::TooLong)?,
-            "{job}"
-        );
-    }
-    Ok(())
-}
-
-#[test]
-fn names_of_no_variable(rt: HostRuntime) -> Result<(), Fail> {
-    let table: [(&str, &str); 7] = [
-        ("{\"script\":\"\",\"env\":{\"\":\"\"}}", "/env/"),
-        ("{\"script\":\"\",\"env\":{\"1a\":\"\"}}", "/env/1a"),
-        ("{\"script\":\"\",\"env\":{\"a-b\":\"\"}}", "/env/a-b"),
-        ("{\"script\":\"\",\"env\":{\"a b\":\"\"}}", "/env/a b"),
-        ("{\"script\":\"\",\"env\":{\"=\":\"\"}}", "/env/="),
-        ("{\"script\":\"\",\"env\":{\"é\":\"\"}}", "/env/é"),
-        (
-            "{\"script\":\"\",\"env\":{\"A\":\"\",\"a/b\":\"\"}}",
-            "/env/a~1b",
-        ),
-    ];
-    for (job, pointer) in table {
-        assert!(rt;
-            is_refused(rt.alloc(), job, pointer, Reason::Name)?,
-            "{job}"
-        );
-    }
-    Ok(())
-}
-
-#[test]
-fn reserved_names(rt: HostRuntime) -> Result<(), Fail> {
-    let table: [(&str, &str); 2] = [
-        ("{\"script\":\"\",\"env\":{\"__bs_q\":\"\"}}", "/env/__bs_q"),
-        ("{\"script\":\"\",\"env\":{\"__bs_\":\"\"}}", "/env/__bs_"),
-    ];
-    for (job, pointer) in table {
-        assert!(rt;
-            is_refused(rt.alloc(), job, pointer, Reason::Reserved)?,
-            "{job}"
-        );
-    }
-    Ok(())
-}
-
-#[test]
-fn special_names(rt: HostRuntime) -> Result<(), Fail> {
-    let table: [(&str, &str); 6] = [
-        ("{\"script\":\"\",\"env\":{\"IFS\":\"\"}}", "/env/IFS"),
-        ("{\"script\":\"\",\"env\":{\"_\":\"\"}}", "/env/_"),
-        ("{\"script\":\"\",\"env\":{\"PS1\":\"\"}}", "/env/PS1"),
-        ("{\"script\":\"\",\"env\":{\"LC_ALL\":\"\"}}", "/env/LC_ALL"),
-        (
-            "{\"script\":\"\",\"env\":{\"BASH_ENV\":\"\"}}",
-            "/env/BASH_ENV",
-        ),
-        ("{\"script\":\"\",\"env\":{\"RANDOM\":\"\"}}", "/env/RANDOM"),
-    ];
-    for (job, pointer) in table {
-        assert!(rt;
-            is_refused(rt.alloc(), job, pointer, Reason::Special)?,
-            "{job}"
-        );
-    }
-    Ok(())
-}
-
-#[test]
-fn texts_that_are_no_path(rt: HostRuntime) -> Result<(), Fail> {
-    let table: [(&str, &str); 10] = [
-        ("{\"script\":\"\",\"files\":{\"\":\"\"}}", "/files/"),
-        ("{\"script\":\"\",\"files\":{\"/\":\"\"}}", "/files/~1"),
-        ("{\"script\":\"\",\"files\":{\".\":\"\"}}", "/files/."),
-        ("{\"script\":\"\",\"files\":{\"..\":\"\"}}", "/files/.."),
-        ("{\"script\":\"\",\"files\":{\"a/\":\"\"}}", "/files/a~1"),
-        (
-            "{\"script\":\"\",\"files\":{\"a//b\":\"\"}}",
-            "/files/a~1~1b",
-        ),
-        ("{\"script\":\"\",\"files\":{\"//a\":\"\"}}", "/files/~1~1a"),
-        (
-            "{\"script\":\"\",\"files\":{\"a/./b\":\"\"}}",
-            "/files/a~1.~1b",
-        ),
-        (
-            "{\"script\":\"\",\"files\":{\"a/../b\":\"\"}}",
-            "/files/a~1..~1b",
-        ),
-        ("{\"script\":\"\",\"files\":{\"/..\":\"\"}}", "/files/~1.."),
-    ];
-    for (job, pointer) in table {
-        assert!(rt;
-            is_refused(rt.alloc(), job, pointer, Reason::Path)?,
-            "{job}"
-        );
-    }
-    Ok(())
-}
-
-#[test]
-fn files_below_files(rt: HostRuntime) -> Result<(), Fail> {
-    let table: [(&str, &str); 6] = [
-        (
-            "{\"script\":\"\",\"files\":{\"a/b\":\"\",\"a\":\"\"}}",
-            "/files/a~1b",
-        ),
-        (
-            "{\"script\":\"\",\"files\":{\"a\":\"\",\"a!\":\"\",\"a/b/c\":\"\"}}",
-            "/files/a~1b~1c",
-        ),
-        (
-            "{\"script\":\"\",\"files\":{\"/a\":\"\",\"/a/b\":\"\"}}",
-            "/files/~1a~1b",
-        ),
-        (
-            "{\"script\":\"\",\"files\":{\"a/b\":\"\",\"a/b/c\":\"\",\"a/b/d\":\"\"}}",
-            "/files/a~1b~1c",
-        ),
-        (
-            "{\"script\":\"\",\"files\":{\"a~\":\"\",\"a~/b~\":\"\"}}",
-            "/files/a~0~1b~0",
-        ),
-        (
-            "{\"script\":\"\",\"files\":{\"\\u00e4\":\"\",\"\\u00e4/b\":\"\"}}",
-            "/files/ä~1b",
-        ),
-    ];
-    for (job, pointer) in table {
-        assert!(rt;
-            is_refused(rt.alloc(), job, pointer, Reason::PathClash)?,
-            "{job}"
-        );
-    }
+fn scripts_reach_the_limit(rt: HostRuntime) -> Result<(), Fail> {
+    let job: &[u8] = b"{\"script\":\"\xc3\xa4\\u00ff\\n\"}";
+    assert!(rt; matches!(read(rt.alloc(), job, 3), Ok(_)));
+    let pointer = Text::copy(rt.alloc(), b"/script")?;
+    assert!(rt; read(rt.alloc(), job, 2) == Err(JobFault::BadWorld(pointer, Reason::TooLong)));
+    assert!(rt; matches!(read(rt.alloc(), b"{\"script\":\"\"}", 0), Ok(_)));
     Ok(())
 }

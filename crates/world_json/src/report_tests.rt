@@ -1,24 +1,9 @@
 use super::*;
+use crate::samples::{pairs_of, texts_of};
 use shell_world::{Call, End, Report};
 use span_text::{List, Memory, Text};
 use std::alloc::Global;
 use std::test::Fail;
-
-fn pairs_of(alloc: Global, pairs: &[(&[u8], &[u8])]) -> Result<List<(Text, Text)>, Memory> {
-    let mut list = List::new(alloc);
-    for (key, value) in pairs {
-        list.push((Text::copy(alloc, key)?, Text::copy(alloc, value)?))?;
-    }
-    Ok(list)
-}
-
-fn texts_of(alloc: Global, texts: &[&[u8]]) -> Result<List<Text>, Memory> {
-    let mut list = List::new(alloc);
-    for text in texts {
-        list.push(Text::copy(alloc, text)?)?;
-    }
-    Ok(list)
-}
 
 /// A report without calls, output and files.
 fn bare(alloc: Global, end: End, turns: u32) -> Report {

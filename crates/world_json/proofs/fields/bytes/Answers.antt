@@ -11,7 +11,7 @@ use Rattle.std.proofs.lemmas.List.{map-id}
 use Rattle.std.proofs.lemmas.List.Folds.{list_all_at, list_all-append}
 use Rattle.shell_world.specs.Texts.{Text}
 use Rattle.world_json.specs.declared.fault.Reason.TheVariants as reason
-use Rattle.world_json.specs.Judging.{Judged, Good, Bad, bytes_of, stands_for_byte, tested}
+use Rattle.world_json.specs.Judging.{Good, Bad, bytes_of, stands_for_byte}
 use Rattle.world_json.proofs.Judging.{refused_is}
 use Rattle.world_json.proofs.fields.bytes.Goals as goal
 

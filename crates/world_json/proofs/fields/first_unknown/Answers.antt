@@ -1,4 +1,4 @@
-use Rattle.std.proofs.Common.{◌≡◌, sym, ap, ◌∙◌}
+use Rattle.std.proofs.Common.{sym, ◌∙◌}
 use Rattle.serde_json.proofs.Views.{Entry}
 use Rattle.world_json.proofs.Judging.{known_next, unknown_next}
 use Rattle.world_json.proofs.fields.first_unknown.Goals as goal

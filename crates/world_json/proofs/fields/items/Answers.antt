@@ -1,8 +1,8 @@
-use Rattle.std.proofs.Common.{◌≡◌, List, ℕ, decimal, length, sym, ap, ◌∙◌, subst, Result, Ok, Err}
+use Rattle.std.proofs.Common.{◌≡◌, List, ℕ, decimal, sym, ap, ◌∙◌, Result, Ok, Err}
 use Rattle.serde_json.specs.View.{view, items_view}
 use Rattle.world_json.specs.declared.fault.JobFault.{JobFault}
 use Rattle.world_json.specs.Judging.{Judged, IsJudged, within, items_of}
-use Rattle.world_json.proofs.Judging.{exit, item_good, item_bad, items_end, items_left, same_judged}
+use Rattle.world_json.proofs.Judging.{exit, item_good, item_bad, items_end, same_judged}
 use Rattle.world_json.proofs.fields.items.Goals as goal
 
 at_index : {X : Type 0} (name : List ℕ) (n : ℕ) (j : Judged X) (r : Result X JobFault) → name ≡ decimal n → IsJudged (within name j) r → IsJudged (within (decimal n) j) r

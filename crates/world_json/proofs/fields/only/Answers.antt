@@ -1,4 +1,4 @@
-use Rattle.std.proofs.Common.{◌≡◌, sym, ap, ◌∙◌, map, refl}
+use Rattle.std.proofs.Common.{refl}
 use Rattle.world_json.specs.declared.fault.Reason.TheVariants as reason
 use Rattle.world_json.specs.Judging.{Judged, refused}
 use Rattle.world_json.proofs.Judging.{only_unknown, refused_is}

@@ -1,4 +1,4 @@
-use Rattle.std.proofs.Common.{◌∙◌, ap, sym, length, ◌==◌}
+use Rattle.std.proofs.Common.{◌∙◌, ap, length, ◌==◌}
 use Rattle.world_json.proofs.Judging.{some_there, has_items}
 use Rattle.world_json.proofs.fields.some.Goals as goal
 

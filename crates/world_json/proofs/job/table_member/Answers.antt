@@ -1,4 +1,4 @@
-use Rattle.std.proofs.Common.{[], ◌∷◌, false, codes, refl}
+use Rattle.std.proofs.Common.{[], codes, refl}
 use Rattle.serde_json.specs.View.{view}
 use Rattle.world_json.specs.Judging.{list_of}
 use Rattle.world_json.specs.Worlds.{row_of}

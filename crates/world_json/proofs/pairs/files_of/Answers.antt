@@ -1,11 +1,9 @@
-use Rattle.std.proofs.Common.{◌≡◌, Ok, Err, sym, ap, ◌∙◌, string_bytes}
-use Rattle.serde_json.specs.View.{view, members_view}
+use Rattle.std.proofs.Common.{Ok, Err}
+use Rattle.serde_json.specs.View.{view}
 use Rattle.serde_json.proofs.Views.{Entry}
-use Rattle.shell_world.specs.Texts.{Text}
-use Rattle.world_json.specs.Judging.{Judged}
 use Rattle.world_json.specs.Worlds.{file_of}
 use Rattle.world_json.proofs.Judging.{exit}
-use Rattle.world_json.proofs.MapLoops.{pair_good, pair_bad, pairs_end, at_key}
+use Rattle.world_json.proofs.MapLoops.{pair_good, pair_bad, at_key}
 use Rattle.world_json.proofs.pairs.files_of.Goals as goal
 
 pub returns-in_err-within : goal.returns-in_err-within

@@ -1,7 +1,6 @@
 use Rattle.std.proofs.Common.{List, codes, refl}
 use Rattle.serde_json.specs.View.{view}
 use Rattle.shell_world.specs.Texts.{Text}
-use Rattle.shell_world.specs.declared.world.Answer.{Answer}
 use Rattle.world_json.specs.declared.fault.Reason.TheVariants as reason
 use Rattle.world_json.specs.Judging.{Judged, refused, some_of, text_of}
 use Rattle.world_json.proofs.Judging.{wanted_there, wanted_missing, refused_is}

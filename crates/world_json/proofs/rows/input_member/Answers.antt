@@ -1,4 +1,4 @@
-use Rattle.std.proofs.Common.{[], ◌∷◌, false, codes, refl}
+use Rattle.std.proofs.Common.{codes, refl}
 use Rattle.serde_json.specs.View.{view}
 use Rattle.shell_world.specs.declared.world.RowInput.TheVariants.{Nothing}
 use Rattle.world_json.specs.Worlds.{input_of}
