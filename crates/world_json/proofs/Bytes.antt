@@ -10,7 +10,7 @@ use Rattle.world_json.specs.declared.fault.JobFault.{JobFault}
 use Rattle.world_json.specs.declared.fault.JobFault.TheVariants as fault
 use Rattle.world_json.specs.declared.job.Job.{Job}
 use Rattle.world_json.specs.Judging.{IsJudged}
-use Rattle.world_json.specs.Worlds.{value_of, value_job, job_of}
+use Rattle.world_json.specs.Jobs.{value_of, value_job, job_of}
 use Rattle.world_json.proofs.Judging.{same_judged, refused_is}
 
 chosen : (b : Bool) (o p : Option Data) → b ≡ true → cond b o p ≡ o

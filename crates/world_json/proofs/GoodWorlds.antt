@@ -21,7 +21,7 @@ use Rattle.world_json.specs.declared.fault.Reason.{Reason}
 use Rattle.world_json.specs.declared.fault.Reason.TheVariants as reason
 use Rattle.world_json.specs.Texts.{characters}
 use Rattle.world_json.specs.Judging.{refused, tested, stands_for_byte, bytes_of, bytes_from, text_of}
-use Rattle.world_json.specs.Worlds.{variable_of, is_component, is_path, folders_from, clashes, file_of}
+use Rattle.world_json.specs.Jobs.{variable_of, is_component, is_path, folders_from, clashes, file_of}
 use Rattle.world_json.proofs.Holding.{Holds, holds_then, holds_tested, holds_more, Paired}
 use Rattle.world_json.proofs.Ordered.{Above, MembersOrdered, not_itself}
 

@@ -6,7 +6,7 @@ use Rattle.serde_json.specs.Find.{get, as_array}
 use Rattle.shell_world.specs.Texts.{Text}
 use Rattle.world_json.specs.declared.fault.Reason.{Reason}
 use Rattle.world_json.specs.Judging.{Judged, Good, Bad, and_then, within, tested, items_of, list_from, list_of, some_from, some_of, wanted, wanted_from, member_or, member_from}
-use Rattle.world_json.specs.Worlds.{pairs_of}
+use Rattle.world_json.specs.Jobs.{pairs_of}
 
 -- P of the value, where it is good
 abbrev pub Holds : {X : Type 0} → (X → Type 0) → Judged X → Type 0

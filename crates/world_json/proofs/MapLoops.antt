@@ -6,7 +6,7 @@ use Rattle.serde_json.proofs.Views.{Entry}
 use Rattle.shell_world.specs.Texts.{Text}
 use Rattle.world_json.specs.declared.fault.JobFault.{JobFault}
 use Rattle.world_json.specs.Judging.{Judged, Good, IsJudged, and_then, within}
-use Rattle.world_json.specs.Worlds.{pairs_of}
+use Rattle.world_json.specs.Jobs.{pairs_of}
 use Rattle.world_json.proofs.Judging.{with_front, front_more, front_bad, same_judged}
 
 -- the pairs behind those that are done

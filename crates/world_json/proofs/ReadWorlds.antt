@@ -13,7 +13,7 @@ use Rattle.world_json.specs.declared.fault.Reason.TheVariants as reason
 use Rattle.world_json.specs.declared.fault.JobFault.{JobFault}
 use Rattle.world_json.specs.declared.job.Job.{Job}
 use Rattle.world_json.specs.Judging.{Judged, IsJudged, bytes_of, text_of, number_of, number_from, list_of, some_of, only, wanted, member_or}
-use Rattle.world_json.specs.Worlds.{variable_of, environment_of, pairs_from, file_of, files_of, answer_of, input_of, is_named, row_members, key_of, row_of, bounds_of, last_of, latitude_of, usual_latitude, job_members, script_of, world_of, members_job, object_job, value_job}
+use Rattle.world_json.specs.Jobs.{variable_of, environment_of, pairs_from, file_of, files_of, answer_of, input_of, is_named, row_members, key_of, row_of, bounds_of, last_of, latitude_of, usual_latitude, job_members, script_of, world_of, members_job, object_job, value_job}
 use Rattle.world_json.proofs.Holding.{Holds, anything, holds_then, holds_tested, holds_more, holds_or, holds_wanted, holds_list, holds_some, holds_pairs, SomeItems, Paired}
 use Rattle.world_json.proofs.Ordered.{Ordered, MembersOrdered, Each, get_ordered, object_ordered}
 use Rattle.world_json.proofs.GoodWorlds.{AreBytes, bytes_hold, text_holds, Named, variable_holds, Filed, file_holds, GoodFiles, files_good, GoodEnvironment, environment_good}

@@ -3,7 +3,7 @@
 ghost use Rattle.std.specs.Prelude.{◌≡◌, false, codes};
 ghost use Rattle.serde_json.specs.View.{view};
 ghost use Rattle.world_json.specs.Judging as judging;
-ghost use Rattle.world_json.specs.Worlds as worlds;
+ghost use Rattle.world_json.specs.Jobs as jobs;
 
 use crate::fault::{JobFault, Reason, refused, within};
 use crate::fields::{number_member, only, text};
@@ -18,7 +18,7 @@ const MOST_DEPTH: u32 = 32;
 
 /// The bounds that the job's members give.
 pub(crate) fn bounds(alloc: Global, job: &Value) -> Result<Bounds, JobFault>
-    ensures { judging.IsJudged (worlds.bounds_of (view job.now)) result }
+    ensures { judging.IsJudged (jobs.bounds_of (view job.now)) result }
 {
     let turns = number_member(alloc, job, "turns", 100_000, 0, MOST_TURNS)?;
     let depth = number_member(alloc, job, "depth", 32, 0, MOST_DEPTH)?;
@@ -27,7 +27,7 @@ pub(crate) fn bounds(alloc: Global, job: &Value) -> Result<Bounds, JobFault>
 
 /// The latitude that the job's member gives.
 pub(crate) fn latitude_member(alloc: Global, job: &Value) -> Result<Latitude, JobFault>
-    ensures { judging.IsJudged (judging.member_or worlds.usual_latitude worlds.latitude_of
+    ensures { judging.IsJudged (judging.member_or jobs.usual_latitude jobs.latitude_of
         (codes "latitude") (view job.now)) result }
 {
     match job.get("latitude") {
@@ -40,7 +40,7 @@ pub(crate) fn latitude_member(alloc: Global, job: &Value) -> Result<Latitude, Jo
 }
 
 fn latitude(alloc: Global, value: &Value) -> Result<Latitude, JobFault>
-    ensures { judging.IsJudged (worlds.latitude_of (view value.now)) result }
+    ensures { judging.IsJudged (jobs.latitude_of (view value.now)) result }
 {
     only(alloc, value, &[b"last", b"redirect"])?;
     let last_current = last_member(alloc, value)?;
@@ -53,7 +53,7 @@ fn latitude(alloc: Global, value: &Value) -> Result<Latitude, JobFault>
 
 fn last_member(alloc: Global, value: &Value) -> Result<bool, JobFault>
     ensures { judging.IsJudged
-        (judging.member_or false worlds.last_of (codes "last") (view value.now)) result }
+        (judging.member_or false jobs.last_of (codes "last") (view value.now)) result }
 {
     match value.get("last") {
         Some(member) => within(alloc, b"last", last(alloc, member)),
@@ -62,14 +62,14 @@ fn last_member(alloc: Global, value: &Value) -> Result<bool, JobFault>
 }
 
 fn last(alloc: Global, value: &Value) -> Result<bool, JobFault>
-    ensures { judging.IsJudged (worlds.last_of (view value.now)) result }
+    ensures { judging.IsJudged (jobs.last_of (view value.now)) result }
 {
     let word = text(alloc, value)?;
     last_word(alloc, word.bytes())
 }
 
 fn last_word(alloc: Global, word: &[u8]) -> Result<bool, JobFault>
-    ensures { judging.IsJudged (worlds.last_word word.now) result }
+    ensures { judging.IsJudged (jobs.last_word word.now) result }
 {
     if b"current".as_slice() == word {
         Ok(true)

@@ -7,7 +7,7 @@ ghost use Rattle.shell_world.specs.World.{IsGood};
 ghost use Rattle.world_json.specs.declared.fault.JobFault.TheVariants as fault;
 ghost use Rattle.world_json.specs.declared.fault.Reason.TheVariants as reason;
 ghost use Rattle.world_json.specs.Judging as judging;
-ghost use Rattle.world_json.specs.Worlds as worlds;
+ghost use Rattle.world_json.specs.Jobs as jobs;
 
 use crate::bounds::{bounds, latitude_member};
 use crate::fault::{JobFault, Reason, refused, within};
@@ -41,7 +41,7 @@ pub struct Job {
 /// The job that these bytes are: a JSON object in UTF-8, whose script has at most `limit` bytes. Else the pointer to
 /// the first bad field, with its reason.
 pub fn read(alloc: Global, text: &[u8], limit: u32) -> Result<Job, JobFault>
-    ensures judged { judging.IsJudged (worlds.job_of limit text.now) result }
+    ensures judged { judging.IsJudged (jobs.job_of limit text.now) result }
     ensures good { IfOk result (λ job. IsGood job.world) }
 {
     match Value::from_slice(alloc, text) {
@@ -63,7 +63,7 @@ fn unread(alloc: Global, error: &Error) -> JobFault
 }
 
 fn value_job(alloc: Global, value: &Value, limit: u32) -> Result<Job, JobFault>
-    ensures { judging.IsJudged (worlds.value_job limit (Some (view value.now))) result }
+    ensures { judging.IsJudged (jobs.value_job limit (Some (view value.now))) result }
 {
     if !value.is_object() {
         return Err(refused(alloc, Reason::Json));
@@ -76,7 +76,7 @@ fn value_job(alloc: Global, value: &Value, limit: u32) -> Result<Job, JobFault>
 
 fn script_member(alloc: Global, job: &Value, limit: u32) -> Result<Text, JobFault>
     ensures { judging.IsJudged
-        (judging.wanted (worlds.script_of limit) (codes "script") (view job.now)) result }
+        (judging.wanted (jobs.script_of limit) (codes "script") (view job.now)) result }
 {
     match job.get("script") {
         Some(member) => within(alloc, b"script", script(alloc, member, limit)),
@@ -85,7 +85,7 @@ fn script_member(alloc: Global, job: &Value, limit: u32) -> Result<Text, JobFaul
 }
 
 fn script(alloc: Global, value: &Value, limit: u32) -> Result<Text, JobFault>
-    ensures { judging.IsJudged (worlds.script_of limit (view value.now)) result }
+    ensures { judging.IsJudged (jobs.script_of limit (view value.now)) result }
 {
     let script = text(alloc, value)?;
     if script.bytes().len() <= limit as usize {
@@ -96,7 +96,7 @@ fn script(alloc: Global, value: &Value, limit: u32) -> Result<Text, JobFault>
 }
 
 fn world(alloc: Global, job: &Value) -> Result<World, JobFault>
-    ensures { judging.IsJudged (worlds.world_of (view job.now)) result }
+    ensures { judging.IsJudged (jobs.world_of (view job.now)) result }
 {
     let args = args_member(alloc, job)?;
     let env = env_member(alloc, job)?;
@@ -137,7 +137,7 @@ fn usual_args(alloc: Global) -> Result<List<Text>, JobFault>
 
 fn env_member(alloc: Global, job: &Value) -> Result<List<(Text, Text)>, JobFault>
     ensures { judging.IsJudged
-        (judging.member_or [] worlds.environment_of (codes "env") (view job.now)) result }
+        (judging.member_or [] jobs.environment_of (codes "env") (view job.now)) result }
 {
     match job.get("env") {
         Some(member) => within(alloc, b"env", environment(alloc, member)),
@@ -147,7 +147,7 @@ fn env_member(alloc: Global, job: &Value) -> Result<List<(Text, Text)>, JobFault
 
 fn files_member(alloc: Global, job: &Value) -> Result<List<(Text, Text)>, JobFault>
     ensures { judging.IsJudged
-        (judging.member_or [] worlds.files_of (codes "files") (view job.now)) result }
+        (judging.member_or [] jobs.files_of (codes "files") (view job.now)) result }
 {
     match job.get("files") {
         Some(member) => within(alloc, b"files", files(alloc, member)),
@@ -157,7 +157,7 @@ fn files_member(alloc: Global, job: &Value) -> Result<List<(Text, Text)>, JobFau
 
 fn table_member(alloc: Global, job: &Value) -> Result<List<Row>, JobFault>
     ensures { judging.IsJudged
-        (judging.member_or [] (judging.list_of worlds.row_of) (codes "table") (view job.now)) result }
+        (judging.member_or [] (judging.list_of jobs.row_of) (codes "table") (view job.now)) result }
 {
     match job.get("table") {
         Some(member) => within(alloc, b"table", list(alloc, member)),

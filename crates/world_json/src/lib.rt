@@ -2,7 +2,7 @@
 //!
 //! `read` gives the job that bytes are, or the pointer to its first bad field with the reason; the world of a job that
 //! is read is a good one. `report_text` gives the text of a report, which reads back. A character U+0000 to U+00FF
-//! stands for the byte of its number. `specs/Judging` and `specs/Worlds` say what a job is, `specs/Reports` what a
+//! stands for the byte of its number. `specs/Judging` and `specs/Jobs` say what a job is, `specs/Reports` what a
 //! report's text is. Read `fault` and `fields` first, then `pairs`, `rows` and `bounds`, which `job` puts together;
 //! `report` stands by itself.
 #![tactic(auto)]

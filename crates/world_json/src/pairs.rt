@@ -4,7 +4,7 @@ ghost use Rattle.std.specs.Prelude.{◌≡◌};
 ghost use Rattle.serde_json.specs.View.{view, members_view};
 ghost use Rattle.shell_world.specs.World.{below_root};
 ghost use Rattle.world_json.specs.Judging as judging;
-ghost use Rattle.world_json.specs.Worlds as worlds;
+ghost use Rattle.world_json.specs.Jobs as jobs;
 
 use crate::fault::{JobFault, Reason, refused, within};
 use crate::fields::{bytes, text};
@@ -14,7 +14,7 @@ use std::alloc::Global;
 
 /// The variables with their values.
 pub(crate) fn environment(alloc: Global, value: &Value) -> Result<List<(Text, Text)>, JobFault>
-    ensures { judging.IsJudged (worlds.environment_of (view value.now)) result }
+    ensures { judging.IsJudged (jobs.environment_of (view value.now)) result }
 {
     match value.as_object() {
         Some(members) => variables(alloc, members),
@@ -24,7 +24,7 @@ pub(crate) fn environment(alloc: Global, value: &Value) -> Result<List<(Text, Te
 
 fn variables(alloc: Global, members: &Map<String, Value>) -> Result<List<(Text, Text)>, JobFault>
     ensures { judging.IsJudged
-        (worlds.pairs_of worlds.variable_of (members_view members.now.entries)) result }
+        (jobs.pairs_of jobs.variable_of (members_view members.now.entries)) result }
 {
     let mut variables = List::new(alloc);
     for (key, member) in members.iter() {
@@ -34,7 +34,7 @@ fn variables(alloc: Global, members: &Map<String, Value>) -> Result<List<(Text, 
 }
 
 fn variable(alloc: Global, key: &str, value: &Value) -> Result<(Text, Text), JobFault>
-    ensures { judging.IsJudged (worlds.variable_of key.now (view value.now)) result }
+    ensures { judging.IsJudged (jobs.variable_of key.now (view value.now)) result }
 {
     let value = text(alloc, value)?;
     let name = bytes(alloc, key)?;
@@ -42,7 +42,7 @@ fn variable(alloc: Global, key: &str, value: &Value) -> Result<(Text, Text), Job
 }
 
 fn variable_named(alloc: Global, name: Text, value: Text) -> Result<(Text, Text), JobFault>
-    ensures { judging.IsJudged (worlds.variable_named name value) result }
+    ensures { judging.IsJudged (jobs.variable_named name value) result }
 {
     if !is_name(name.bytes()) {
         Err(refused(alloc, Reason::Name))
@@ -57,7 +57,7 @@ fn variable_named(alloc: Global, name: Text, value: Text) -> Result<(Text, Text)
 
 /// The paths with the bytes of their files.
 pub(crate) fn files(alloc: Global, value: &Value) -> Result<List<(Text, Text)>, JobFault>
-    ensures { judging.IsJudged (worlds.files_of (view value.now)) result }
+    ensures { judging.IsJudged (jobs.files_of (view value.now)) result }
 {
     match value.as_object() {
         Some(members) => files_of(alloc, value, members),
@@ -72,14 +72,14 @@ fn files_of(
     members: &Map<String, Value>,
 ) -> Result<List<(Text, Text)>, JobFault>
     ensures { judging.IsJudged
-        (worlds.pairs_of (worlds.file_of (view all.now)) (members_view members.now.entries)) result }
+        (jobs.pairs_of (jobs.file_of (view all.now)) (members_view members.now.entries)) result }
 {
     let mut files = List::new(alloc);
-    for (key, member) in members.iter() {
+    for (path, member) in members.iter() {
         files.push(within(
             alloc,
-            key.as_bytes(),
-            file(alloc, all, key.as_str(), member),
+            path.as_bytes(),
+            file(alloc, all, path.as_str(), member),
         )?)?;
     }
     Ok(files)
@@ -87,7 +87,7 @@ fn files_of(
 
 /// The file of this path, one of the files.
 fn file(alloc: Global, files: &Value, key: &str, value: &Value) -> Result<(Text, Text), JobFault>
-    ensures { judging.IsJudged (worlds.file_of (view files.now) key.now (view value.now)) result }
+    ensures { judging.IsJudged (jobs.file_of (view files.now) key.now (view value.now)) result }
 {
     let contents = text(alloc, value)?;
     let path = bytes(alloc, key)?;
@@ -95,7 +95,7 @@ fn file(alloc: Global, files: &Value, key: &str, value: &Value) -> Result<(Text,
 }
 
 fn file_at(alloc: Global, clash: bool, path: Text, contents: Text) -> Result<(Text, Text), JobFault>
-    ensures { judging.IsJudged (worlds.file_at clash path contents) result }
+    ensures { judging.IsJudged (jobs.file_at clash path contents) result }
 {
     if !is_path(path.bytes()) {
         Err(refused(alloc, Reason::Path))
@@ -108,7 +108,7 @@ fn file_at(alloc: Global, clash: bool, path: Text, contents: Text) -> Result<(Te
 
 /// Whether the text is one or more components joined by `/`, with or without a leading `/`.
 fn is_path(path: &[u8]) -> bool
-    ensures { result ≡ worlds.is_path path.now }
+    ensures { result ≡ jobs.is_path path.now }
 {
     below_root(path)
         .split(|byte| *byte == b'/')
@@ -125,14 +125,14 @@ fn below_root(path: &[u8]) -> &[u8]
 }
 
 fn is_component(part: &[u8]) -> bool
-    ensures { result ≡ worlds.is_component part.now }
+    ensures { result ≡ jobs.is_component part.now }
 {
     !(part.is_empty() || part == b".".as_slice() || part == b"..".as_slice())
 }
 
 /// Whether another of the files is a folder of this path.
 fn clashes(files: &Value, path: &str) -> bool
-    ensures { result ≡ worlds.clashes (view files.now) path.now }
+    ensures { result ≡ jobs.clashes (view files.now) path.now }
 {
     for (at, byte) in path.as_bytes().iter().enumerate() {
         if *byte == b'/' && at > 0 && files.get(&path[..at]).is_some() {

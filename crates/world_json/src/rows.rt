@@ -4,7 +4,7 @@ ghost use Rattle.std.specs.Prelude.{◌≡◌, codes};
 ghost use Rattle.serde_json.specs.View.{view};
 ghost use Rattle.shell_world.specs.declared.world.RowInput.TheVariants.{Nothing};
 ghost use Rattle.world_json.specs.Judging as judging;
-ghost use Rattle.world_json.specs.Worlds as worlds;
+ghost use Rattle.world_json.specs.Jobs as jobs;
 
 use crate::fault::{JobFault, Reason, refused, within};
 use crate::fields::{Item, bytes, number_member, only, some, text, text_member};
@@ -14,7 +14,7 @@ use span_text::{List, Text};
 use std::alloc::Global;
 
 impl Item for Answer {
-    ghost judged = { worlds.answer_of };
+    ghost judged = { jobs.answer_of };
 
     fn judge(alloc: Global, value: &Value) -> Result<Answer, JobFault> {
         answer(alloc, value)
@@ -22,7 +22,7 @@ impl Item for Answer {
 }
 
 impl Item for Row {
-    ghost judged = { worlds.row_of };
+    ghost judged = { jobs.row_of };
 
     fn judge(alloc: Global, value: &Value) -> Result<Row, JobFault> {
         row(alloc, value)
@@ -30,7 +30,7 @@ impl Item for Row {
 }
 
 fn answer(alloc: Global, value: &Value) -> Result<Answer, JobFault>
-    ensures { judging.IsJudged (worlds.answer_of (view value.now)) result }
+    ensures { judging.IsJudged (jobs.answer_of (view value.now)) result }
 {
     only(alloc, value, &[b"status", b"out", b"err"])?;
     let status = number_member(alloc, value, "status", 0, 0, 255)?;
@@ -45,14 +45,14 @@ fn answer(alloc: Global, value: &Value) -> Result<Answer, JobFault>
 
 /// Whether the key of a row is a name. A row has one key: where it has `argv`, a `name` is unknown.
 fn is_named(value: &Value) -> bool
-    ensures { result ≡ worlds.is_named (view value.now) }
+    ensures { result ≡ jobs.is_named (view value.now) }
 {
     value.get("name").is_some() && value.get("argv").is_none()
 }
 
 fn only_row(alloc: Global, value: &Value) -> Result<(), JobFault>
     ensures { judging.IsJudged
-        (judging.only (worlds.row_members (worlds.is_named (view value.now))) (view value.now)) result }
+        (judging.only (jobs.row_members (jobs.is_named (view value.now))) (view value.now)) result }
 {
     if is_named(value) {
         only(alloc, value, &[b"name", b"input", b"answers"])
@@ -62,7 +62,7 @@ fn only_row(alloc: Global, value: &Value) -> Result<(), JobFault>
 }
 
 fn row(alloc: Global, value: &Value) -> Result<Row, JobFault>
-    ensures { judging.IsJudged (worlds.row_of (view value.now)) result }
+    ensures { judging.IsJudged (jobs.row_of (view value.now)) result }
 {
     only_row(alloc, value)?;
     let key = key(alloc, value)?;
@@ -76,7 +76,7 @@ fn row(alloc: Global, value: &Value) -> Result<Row, JobFault>
 }
 
 fn key(alloc: Global, value: &Value) -> Result<RowKey, JobFault>
-    ensures { judging.IsJudged (worlds.key_of (worlds.is_named (view value.now)) (view value.now)) result }
+    ensures { judging.IsJudged (jobs.key_of (jobs.is_named (view value.now)) (view value.now)) result }
 {
     if is_named(value) {
         Ok(RowKey::Name(name(alloc, value)?))
@@ -106,7 +106,7 @@ fn argv(alloc: Global, value: &Value) -> Result<List<Text>, JobFault>
 
 fn answers(alloc: Global, value: &Value) -> Result<List<Answer>, JobFault>
     ensures { judging.IsJudged
-        (judging.wanted (judging.some_of worlds.answer_of) (codes "answers") (view value.now)) result }
+        (judging.wanted (judging.some_of jobs.answer_of) (codes "answers") (view value.now)) result }
 {
     match value.get("answers") {
         Some(member) => within(alloc, b"answers", some(alloc, member)),
@@ -116,7 +116,7 @@ fn answers(alloc: Global, value: &Value) -> Result<List<Answer>, JobFault>
 
 fn input_member(alloc: Global, value: &Value) -> Result<RowInput, JobFault>
     ensures { judging.IsJudged
-        (judging.member_or Nothing worlds.input_of (codes "input") (view value.now)) result }
+        (judging.member_or Nothing jobs.input_of (codes "input") (view value.now)) result }
 {
     match value.get("input") {
         Some(member) => within(alloc, b"input", input(alloc, member)),
@@ -125,7 +125,7 @@ fn input_member(alloc: Global, value: &Value) -> Result<RowInput, JobFault>
 }
 
 fn input(alloc: Global, value: &Value) -> Result<RowInput, JobFault>
-    ensures { judging.IsJudged (worlds.input_of (view value.now)) result }
+    ensures { judging.IsJudged (jobs.input_of (view value.now)) result }
 {
     match value {
         Value::Null => Ok(RowInput::Nothing),

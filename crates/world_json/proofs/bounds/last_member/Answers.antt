@@ -1,6 +1,6 @@
 use Rattle.std.proofs.Common.{false, codes, refl}
 use Rattle.serde_json.specs.View.{view}
-use Rattle.world_json.specs.Worlds.{last_of}
+use Rattle.world_json.specs.Jobs.{last_of}
 use Rattle.world_json.proofs.Judging.{member_there}
 use Rattle.world_json.proofs.bounds.last_member.Goals as goal
 

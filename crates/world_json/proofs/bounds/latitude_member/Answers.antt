@@ -1,6 +1,6 @@
 use Rattle.std.proofs.Common.{codes, refl}
 use Rattle.serde_json.specs.View.{view}
-use Rattle.world_json.specs.Worlds.{latitude_of, usual_latitude}
+use Rattle.world_json.specs.Jobs.{latitude_of, usual_latitude}
 use Rattle.world_json.proofs.Judging.{member_there}
 use Rattle.world_json.proofs.bounds.latitude_member.Goals as goal
 

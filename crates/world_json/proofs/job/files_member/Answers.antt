@@ -1,6 +1,6 @@
 use Rattle.std.proofs.Common.{[], codes, refl}
 use Rattle.serde_json.specs.View.{view}
-use Rattle.world_json.specs.Worlds.{files_of}
+use Rattle.world_json.specs.Jobs.{files_of}
 use Rattle.world_json.proofs.Judging.{member_there}
 use Rattle.world_json.proofs.job.files_member.Goals as goal
 

@@ -3,7 +3,7 @@ use Rattle.serde_json.specs.View.{view}
 use Rattle.shell_world.specs.Texts.{Text}
 use Rattle.world_json.specs.declared.fault.Reason.TheVariants as reason
 use Rattle.world_json.specs.Judging.{Judged, refused}
-use Rattle.world_json.specs.Worlds.{script_of}
+use Rattle.world_json.specs.Jobs.{script_of}
 use Rattle.world_json.proofs.Judging.{wanted_there, wanted_missing, refused_is}
 use Rattle.world_json.proofs.job.script_member.Goals as goal
 

@@ -1,7 +1,7 @@
 use Rattle.std.proofs.Common.{[], codes, refl}
 use Rattle.serde_json.specs.View.{view}
 use Rattle.world_json.specs.Judging.{list_of}
-use Rattle.world_json.specs.Worlds.{row_of}
+use Rattle.world_json.specs.Jobs.{row_of}
 use Rattle.world_json.proofs.Judging.{member_there}
 use Rattle.world_json.proofs.job.table_member.Goals as goal
 

@@ -2,7 +2,7 @@ use Rattle.std.proofs.Common.{◌≡◌, take, drop, is_some}
 use Rattle.std.specs.List.{list_any}
 use Rattle.serde_json.specs.Find.{get}
 use Rattle.serde_json.specs.View.{view}
-use Rattle.world_json.specs.Worlds.{clashes, folders_from}
+use Rattle.world_json.specs.Jobs.{clashes, folders_from}
 use Rattle.world_json.proofs.pairs.clashes.Given as goal
 
 abbrev pub invariant-loop-at : goal.invariant-loop-at

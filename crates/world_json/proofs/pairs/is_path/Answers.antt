@@ -2,7 +2,7 @@ use Rattle.std.proofs.Common.{◌∙◌, ◌==◌, ap, rules, tests}
 use Rattle.std.specs.List.{slice_split, list_all}
 use Rattle.std.proofs.lemmas.Iterator.Search.{all_from_yields_List}
 use Rattle.std.proofs.lemmas.Iterator.Splits.{YieldsList-from_slice_split}
-use Rattle.world_json.specs.Worlds.{is_component}
+use Rattle.world_json.specs.Jobs.{is_component}
 use Rattle.world_json.proofs.pairs.is_path.Goals as goal
 
 pub returns : goal.returns

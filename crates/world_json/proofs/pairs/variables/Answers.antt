@@ -1,6 +1,6 @@
 use Rattle.std.proofs.Common.{Ok, Err}
 use Rattle.serde_json.proofs.Views.{Entry}
-use Rattle.world_json.specs.Worlds.{variable_of}
+use Rattle.world_json.specs.Jobs.{variable_of}
 use Rattle.world_json.proofs.Judging.{exit}
 use Rattle.world_json.proofs.MapLoops.{pair_good, pair_bad, at_key}
 use Rattle.world_json.proofs.pairs.variables.Goals as goal

@@ -1,6 +1,6 @@
 use Rattle.std.proofs.Common.{◌≡◌}
 use Rattle.serde_json.specs.View.{members_view}
-use Rattle.world_json.specs.Worlds.{pairs_of, variable_of}
+use Rattle.world_json.specs.Jobs.{pairs_of, variable_of}
 use Rattle.world_json.proofs.MapLoops.{pairs_left}
 use Rattle.world_json.proofs.pairs.variables.Given as goal
 

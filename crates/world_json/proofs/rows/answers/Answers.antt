@@ -3,7 +3,7 @@ use Rattle.serde_json.specs.View.{view}
 use Rattle.shell_world.specs.declared.world.Answer.{Answer}
 use Rattle.world_json.specs.declared.fault.Reason.TheVariants as reason
 use Rattle.world_json.specs.Judging.{Judged, refused, some_of}
-use Rattle.world_json.specs.Worlds.{answer_of}
+use Rattle.world_json.specs.Jobs.{answer_of}
 use Rattle.world_json.proofs.Judging.{wanted_there, wanted_missing, refused_is}
 use Rattle.world_json.proofs.rows.answers.Goals as goal
 

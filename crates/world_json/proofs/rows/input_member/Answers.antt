@@ -1,7 +1,7 @@
 use Rattle.std.proofs.Common.{codes, refl}
 use Rattle.serde_json.specs.View.{view}
 use Rattle.shell_world.specs.declared.world.RowInput.TheVariants.{Nothing}
-use Rattle.world_json.specs.Worlds.{input_of}
+use Rattle.world_json.specs.Jobs.{input_of}
 use Rattle.world_json.proofs.Judging.{member_there}
 use Rattle.world_json.proofs.rows.input_member.Goals as goal
 
