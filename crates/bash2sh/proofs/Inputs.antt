@@ -44,48 +44,49 @@ piece a b i j held text buffer room n within long m ends le is = record {
   never_falls = le;
 }
 
--- what a loop has read
-pub record SoFar (before now : Option (List ℕ)) (faults count : ℕ) (text : List ℕ) : Type 0 where
-  pub took : Took before now text
-  pub never_falls : faults ≤ count
-  pub fits : length text ≤ 1048577
+module _ (most : ℕ) where
+  -- what a loop has read
+  pub record SoFar (before now : Option (List ℕ)) (faults count : ℕ) (text : List ℕ) : Type 0 where
+    pub took : Took before now text
+    pub never_falls : faults ≤ count
+    pub fits : length text ≤ most + 1
 
-pub SoFar-none : (a : Option (List ℕ)) (i : ℕ) → SoFar a a i i []
-SoFar-none a i = record { took = Took-none a; never_falls = omega arith; fits = omega arith }
+  pub SoFar-none : (a : Option (List ℕ)) (i : ℕ) → SoFar a a i i []
+  SoFar-none a i = record { took = Took-none a; never_falls = omega arith; fits = omega arith }
 
-Piece-length : (a b : Option (List ℕ)) (i j : ℕ) (held text : List ℕ) (room n : ℕ) → Piece a b i j held text room n → length text ≡ length held + n
-Piece-length a b i j held text room n p =
-    ap (λ (l : List ℕ). length l) p.behind ∙ length-append held p.taken ∙ ap (λ (k : ℕ). length held + k) p.counted
+  Piece-length : (a b : Option (List ℕ)) (i j : ℕ) (held text : List ℕ) (room n : ℕ) → Piece a b i j held text room n → length text ≡ length held + n
+  Piece-length a b i j held text room n p =
+      ap (λ (l : List ℕ). length l) p.behind ∙ length-append held p.taken ∙ ap (λ (k : ℕ). length held + k) p.counted
 
-took_more : (a b c : Option (List ℕ)) (i j k : ℕ) (held text : List ℕ) (room n : ℕ) → SoFar a b i j held → Piece b c j k held text room n → Took a c text
-took_more a b c i j k held text room n s p = rw p.behind (Took-then a b c held p.taken s.took p.took)
+  took_more : (a b c : Option (List ℕ)) (i j k : ℕ) (held text : List ℕ) (room n : ℕ) → SoFar a b i j held → Piece b c j k held text room n → Took a c text
+  took_more a b c i j k held text room n s p = rw p.behind (Took-then a b c held p.taken s.took p.took)
 
-pub SoFar-more : (a b c : Option (List ℕ)) (i j k : ℕ) (held text : List ℕ) (room n : ℕ) → SoFar a b i j held → length held + room ≤ 1048577 → Piece b c j k held text room n → SoFar a c i k text
-SoFar-more a b c i j k held text room n s le p =
-    let long = Piece-length b c j k held text room n p in
-    record {
-      took = took_more a b c i j k held text room n s p;
-      never_falls = omega (arith, s.never_falls, p.never_falls);
-      fits = omega (arith, long, le, p.within);
-    }
+  pub SoFar-more : (a b c : Option (List ℕ)) (i j k : ℕ) (held text : List ℕ) (room n : ℕ) → SoFar a b i j held → length held + room ≤ most + 1 → Piece b c j k held text room n → SoFar a c i k text
+  SoFar-more a b c i j k held text room n s le p =
+      let long = Piece-length b c j k held text room n p in
+      record {
+        took = took_more a b c i j k held text room n s p;
+        never_falls = omega (arith, s.never_falls, p.never_falls);
+        fits = omega (arith, long, le, p.within);
+      }
 
--- each read that isn't the last takes a byte
-pub SoFar-less : (b c : Option (List ℕ)) (j k : ℕ) (held text : List ℕ) (room n : ℕ) → n ≢ 0 → length held + room ≤ 1048577 → Piece b c j k held text room n → 1048577 - length text < 1048577 - length held
-SoFar-less b c j k held text room n some le p =
-    let long = Piece-length b c j k held text room n p in
-    omega (arith, long, le, p.within, some)
+  -- each read that isn't the last takes a byte
+  pub SoFar-less : (b c : Option (List ℕ)) (j k : ℕ) (held text : List ℕ) (room n : ℕ) → n ≢ 0 → length held + room ≤ most + 1 → Piece b c j k held text room n → (most + 1) - length text < (most + 1) - length held
+  SoFar-less b c j k held text room n some le p =
+      let long = Piece-length b c j k held text room n p in
+      omega (arith, long, le, p.within, some)
 
-pub SoFar-done : (a b c : Option (List ℕ)) (i j k : ℕ) (held text : List ℕ) (room n : ℕ) → SoFar a b i j held → length held ≤ 1048576 → 0 < room → n ≡ 0 → Piece b c j k held text room n → GivesInput a c i k (Ok text)
-SoFar-done a b c i j k held text room n s le some zero p =
-    let long = Piece-length b c j k held text room n p in
-    (took_more a b c i j k held text room n s p, Over-then a b c held s.took (p.ends zero some), omega (arith, long, le, zero), omega (arith, s.never_falls, p.never_falls))
+  pub SoFar-done : (a b c : Option (List ℕ)) (i j k : ℕ) (held text : List ℕ) (room n : ℕ) → SoFar a b i j held → length held ≤ most → 0 < room → n ≡ 0 → Piece b c j k held text room n → GivesInput most a c i k (Ok text)
+  SoFar-done a b c i j k held text room n s le some zero p =
+      let long = Piece-length b c j k held text room n p in
+      (took_more a b c i j k held text room n s p, Over-then a b c held s.took (p.ends zero some), omega (arith, long, le, zero), omega (arith, s.never_falls, p.never_falls))
 
-pub SoFar-fails : (a b c : Option (List ℕ)) (i j k : ℕ) (held text : List ℕ) (room : ℕ) (e : InputFault) → SoFar a b i j held → Reads b c j k held text room (Err e) → GivesInput a c i k (Err e)
-SoFar-fails a b c i j k held text room input.Memory s r = omega (arith, s.never_falls, r)
-SoFar-fails a b c i j k held text room input.Failed s r = Rose-from i j k s.never_falls r
-SoFar-fails a b c i j k held text room input.TooLong s r = absurd r
+  pub SoFar-fails : (a b c : Option (List ℕ)) (i j k : ℕ) (held text : List ℕ) (room : ℕ) (e : InputFault) → SoFar a b i j held → Reads b c j k held text room (Err e) → GivesInput most a c i k (Err e)
+  SoFar-fails a b c i j k held text room input.Memory s r = omega (arith, s.never_falls, r)
+  SoFar-fails a b c i j k held text room input.Failed s r = Rose-from i j k s.never_falls r
+  SoFar-fails a b c i j k held text room input.TooLong s r = absurd r
 
-pub SoFar-long : (a b : Option (List ℕ)) (i j : ℕ) (text : List ℕ) → SoFar a b i j text → 1048576 < length text → GivesInput a b i j (Err input.TooLong)
-SoFar-long a b i j text s lt = (text, s.took, omega (arith, s.fits, lt), s.never_falls)
+  pub SoFar-long : (a b : Option (List ℕ)) (i j : ℕ) (text : List ℕ) → SoFar a b i j text → most < length text → GivesInput most a b i j (Err input.TooLong)
+  SoFar-long a b i j text s lt = (text, s.took, omega (arith, s.fits, lt), s.never_falls)
 
 -- ---- what all reads give, where it is told what was left

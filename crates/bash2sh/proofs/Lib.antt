@@ -8,6 +8,7 @@ pub mod Loops
 mod Lowered
 mod Meaning
 pub mod Printable
+pub mod Reporting
 pub mod Rest
 mod Tools
 pub mod Translating

@@ -5,6 +5,8 @@ use Rattle.shell_world.specs.Texts.{Text, Map}
 use Rattle.shell_world.specs.Outside.{Trace}
 use Rattle.shell_world.specs.Runs.{Signal, St, Res, Ends, GoesOn, Unspecified}
 use Rattle.shell_world.specs.World.{start_ifs}
+use Rattle.shell_world.specs.declared.world.End.TheVariants as end
+use Rattle.shell_world.specs.Reports.{report}
 use Rattle.shell_world.specs.Ends.{Outcome, Ended, Going, Unknown, outcome}
 use Rattle.shell_world.proofs.Monotone.{Later}
 use Rattle.shell_world.proofs.Simulate.{Run, Matches}
@@ -69,3 +71,15 @@ same_meaning s e = record {
   goes_on_only = λ w good t d out is. goes_on_only (bash.run w s) (sh.run w (lower s)) (bash_grows s e w) (sh_grows s e w) (follows s e w) t d out is;
   specified = λ w good t d out is. specified (bash.run w s) (sh.run w (lower s)) (bash_grows s e w) (sh_grows s e w) (follows s e w) t d out is;
 }
+
+-- a run of a script of the form always has a meaning
+ends_specified : (n : ℕ) (o : Res Signal bash.Own) (run : Run Signal sh.Own) → Matches Both n o run → (report bash_status n o).«end» ≡ end.Unspecified → ⊥
+ends_specified n (Ends g s r) run m e = absurd cc
+ends_specified n (GoesOn w r) run m e = absurd cc
+ends_specified n (Unspecified w r) run m e = m
+
+pub bash_specified : (world : World) (s : Script) → script_form s ≡ true → (bash.report world s).«end» ≡ end.Unspecified → ⊥
+bash_specified world s form e =
+    let turns = world.bounds.turns in
+    ends_specified turns (bash.script_run world (bash.level world world.bounds.depth) s turns (bash.start world)) (λ d f j. sh.script_run world (sh.level world d) (lower s) j (sh.start world))
+    ((script_does world (bash.level world world.bounds.depth) (λ d. sh.level world d) s form).by turns (bash.start world) (sh.start world) (start_agrees s form world)) e

@@ -1,12 +1,17 @@
 -- What a run of the program takes, writes and answers.
 use Rattle.std.specs.Prelude.{◌≡◌, ℕ, ◌+◌, ◌≤◌, List, [], ◌∷◌, ◌++◌, length, codes, decimal, Option, Some, None, Result, Ok, Err, ◌⊎◌}
 use Rattle.span_text.specs.Streams.{Rose, Grows, Falls}
+use Rattle.world_json.specs.declared.fault.Reason.{Reason}
+use Rattle.world_json.specs.Judging.{reason_word}
 use Rattle.bash2sh.specs.declared.input.InputFault.{InputFault}
 use Rattle.bash2sh.specs.declared.input.InputFault.TheVariants as input
 
--- how many bytes a script may have
+-- how many bytes a Bash script may have, and how many sh text and a job may have
 abbrev pub limit : ℕ
 limit = 1048576
+
+abbrev pub large_limit : ℕ
+large_limit = 16777216
 
 -- ---- what is read
 
@@ -21,11 +26,11 @@ Over None later = Unit {0}
 Over (Some left) later = later ≡ Some []
 
 -- All that was left, within the limit; or a fault that was counted; or one byte more than the limit.
-abbrev pub GivesInput : Option (List ℕ) → Option (List ℕ) → ℕ → ℕ → Result (List ℕ) InputFault → Type 0
-GivesInput before later faults now (Ok text) = Took before later text × Over before later × (length text ≤ limit) × (faults ≤ now)
-GivesInput before later faults now (Err input.Memory) = faults ≤ now
-GivesInput before later faults now (Err input.Failed) = Rose faults now
-GivesInput before later faults now (Err input.TooLong) = (taken : List ℕ) × Took before later taken × (length taken ≡ limit + 1) × (faults ≤ now)
+abbrev pub GivesInput : ℕ → Option (List ℕ) → Option (List ℕ) → ℕ → ℕ → Result (List ℕ) InputFault → Type 0
+GivesInput most before later faults now (Ok text) = Took before later text × Over before later × (length text ≤ most) × (faults ≤ now)
+GivesInput most before later faults now (Err input.Memory) = faults ≤ now
+GivesInput most before later faults now (Err input.Failed) = Rose faults now
+GivesInput most before later faults now (Err input.TooLong) = (taken : List ℕ) × Took before later taken × (length taken ≡ most + 1) × (faults ≤ now)
 
 -- ---- what is said
 
@@ -36,3 +41,7 @@ Said before later faults now line = (Grows before later line × (faults ≤ now)
 -- `bash2sh: 2:1: not-yet`
 abbrev pub refused_line : ℕ → ℕ → List ℕ
 refused_line line column = codes "bash2sh: " ++ decimal line ++ 58 ∷ decimal column ++ codes ": not-yet\n"
+
+-- `bash2sh: /env/__bs_q: reserved`
+abbrev pub bad_world_line : List ℕ → Reason → List ℕ
+bad_world_line pointer r = codes "bash2sh: " ++ (pointer ++ (codes ": " ++ (reason_word r ++ 10 ∷ [])))

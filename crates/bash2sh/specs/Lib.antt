@@ -1,10 +1,12 @@
 pub mod Answers
 pub mod Form
 pub mod Input
+pub mod Jobs
 pub mod Lower
 pub mod Model
 pub mod Program
 pub mod SameMeaning
+pub mod Sinks
 pub mod Spelling
 pub mod Translation
 pub mod Trees

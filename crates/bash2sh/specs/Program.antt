@@ -1,13 +1,17 @@
 -- How a run of the program ends, and what it leaves.
-use Rattle.std.specs.Prelude.{◌≡◌, ℕ, ◌+◌, ◌≤◌, Bool, true, false, List, [], ◌∷◌, length, codes, Option}
+use Rattle.std.specs.Prelude.{◌≡◌, ℕ, ◌+◌, ◌≤◌, if◌then◌else◌, List, [], ◌∷◌, length, codes, Option, Some, None}
 use Rattle.span_text.specs.Streams.{Rose, Grows, Falls}
 use Rattle.span_text.specs.Places.{line_of, column_of}
 use Rattle.span_text.specs.KnownNames.{same_text}
-use Rattle.bash2sh.specs.Answers.{limit, Took, Over, Said, refused_line}
-use Rattle.bash2sh.specs.declared.language.Language.TheVariants.{Bash}
+use Rattle.bash2sh.specs.Answers.{limit, large_limit, Took, Over, refused_line}
+use Rattle.bash2sh.specs.Sinks.{Sinks, Line}
+use Rattle.bash2sh.specs.Jobs.{OnJob}
+use Rattle.bash2sh.specs.declared.language.Language.TheVariants.{Bash, Sh}
+use Rattle.bash2sh.specs.declared.asked.Asked.{Asked}
+use Rattle.bash2sh.specs.declared.asked.Asked.TheVariants.{Translate, Run}
 use Rattle.bash2sh.specs.Translation.{IsTranslated, IsRefused}
-use Rattle.bash2sh.specs.declared.program.Status.{Status}
-use Rattle.bash2sh.specs.declared.program.Status.TheVariants as status
+use Rattle.bash2sh.specs.declared.status.Status.{Status}
+use Rattle.bash2sh.specs.declared.status.Status.TheVariants as status
 
 abbrev pub number_of : Status → ℕ
 number_of status.Done = 0
@@ -15,25 +19,28 @@ number_of status.Usage = 2
 number_of status.Refused = 3
 number_of status.ReadFault = 4
 number_of status.WriteFault = 5
+number_of status.BadWorld = 6
 number_of status.TooLong = 7
+number_of status.GoesOn = 8
 number_of status.OutOfMemory = 9
+number_of status.Unspecified = 10
 
--- the words are `translate` alone
-abbrev pub asks_translate : List (List ℕ) → Bool
-asks_translate [] = false
-asks_translate (w ∷ []) = same_text w (codes "translate")
-asks_translate (w ∷ v ∷ ws) = false
+-- the command that a word names
+abbrev pub asked_by : List ℕ → Option Asked
+asked_by w =
+    if same_text w (codes "translate") then Some Translate
+    else (if same_text w (codes "run-bash") then Some (Run Bash) else (if same_text w (codes "run-sh") then Some (Run Sh) else None))
 
--- what both sinks hold, where they tell it, and how often they have failed
-pub record Sinks : Type 0 where
-  pub held : Option (List ℕ)
-  pub write_faults : ℕ
-  pub said : Option (List ℕ)
-  pub say_faults : ℕ
+-- the words are one command alone
+abbrev pub asked_of : List (List ℕ) → Option Asked
+asked_of [] = None
+asked_of (w ∷ []) = asked_by w
+asked_of (w ∷ v ∷ ws) = None
 
--- this line was written to the standard error
-abbrev pub Line : Sinks → Sinks → List ℕ → Type 0
-Line b a line = Said b.said a.said b.say_faults a.say_faults line
+-- how many bytes it takes
+abbrev pub limit_of : Asked → ℕ
+limit_of Translate = limit
+limit_of (Run language) = large_limit
 
 -- how the translation of a text ends
 abbrev pub OnText : Sinks → Sinks → List ℕ → Status → Type 0
@@ -43,25 +50,44 @@ OnText b a text status.WriteFault = (written : List ℕ) × IsTranslated text wr
 OnText b a text status.OutOfMemory = (a.held ≡ b.held) × Line b a (codes "bash2sh: out of memory\n")
 OnText b a text status.Usage = ⊥
 OnText b a text status.ReadFault = ⊥
+OnText b a text status.BadWorld = ⊥
 OnText b a text status.TooLong = ⊥
+OnText b a text status.GoesOn = ⊥
+OnText b a text status.Unspecified = ⊥
 
--- a text within the limit was all that the source had left
-abbrev pub OnScript : Option (List ℕ) → Option (List ℕ) → Sinks → Sinks → Status → Type 0
-OnScript before later b a s = (text : List ℕ) × Took before later text × Over before later × (length text ≤ limit) × OnText b a text s
+-- how a command ends once the bytes are there
+abbrev pub OnBytes : Asked → Sinks → Sinks → List ℕ → Status → Type 0
+OnBytes Translate b a text s = OnText b a text s
+OnBytes (Run language) b a text s = OnJob language b a text s
 
--- THE PROGRAM: how it ends where the words ask for a translation, and where they don't
-abbrev pub Ends : Bool → Option (List ℕ) → Option (List ℕ) → ℕ → ℕ → Sinks → Sinks → Status → Type 0
-Ends false before later faults now b a status.Usage = (later ≡ before) × (a.held ≡ b.held) × Line b a (codes "bash2sh: usage\n")
-Ends false before later faults now b a status.Done = ⊥
-Ends false before later faults now b a status.Refused = ⊥
-Ends false before later faults now b a status.ReadFault = ⊥
-Ends false before later faults now b a status.WriteFault = ⊥
-Ends false before later faults now b a status.TooLong = ⊥
-Ends false before later faults now b a status.OutOfMemory = ⊥
-Ends true before later faults now b a status.Usage = ⊥
-Ends true before later faults now b a status.Done = OnScript before later b a status.Done
-Ends true before later faults now b a status.Refused = OnScript before later b a status.Refused
-Ends true before later faults now b a status.WriteFault = OnScript before later b a status.WriteFault
-Ends true before later faults now b a status.ReadFault = Rose faults now × (a.held ≡ b.held) × Line b a (codes "bash2sh: read fault\n")
-Ends true before later faults now b a status.TooLong = (taken : List ℕ) × Took before later taken × (length taken ≡ limit + 1) × (a.held ≡ b.held) × Line b a (codes "bash2sh: too long\n")
-Ends true before later faults now b a status.OutOfMemory = (a.held ≡ b.held) × Line b a (codes "bash2sh: out of memory\n")
+-- bytes within the limit were all that the source had left
+abbrev pub OnInput : Asked → Option (List ℕ) → Option (List ℕ) → Sinks → Sinks → Status → Type 0
+OnInput asked before later b a s = (text : List ℕ) × Took before later text × Over before later × (length text ≤ limit_of asked) × OnBytes asked b a text s
+
+-- no command was asked for: nothing is read
+abbrev pub OnUsage : Option (List ℕ) → Option (List ℕ) → Sinks → Sinks → Status → Type 0
+OnUsage before later b a status.Usage = (later ≡ before) × (a.held ≡ b.held) × Line b a (codes "bash2sh: usage\n")
+OnUsage before later b a status.Done = ⊥
+OnUsage before later b a status.Refused = ⊥
+OnUsage before later b a status.ReadFault = ⊥
+OnUsage before later b a status.WriteFault = ⊥
+OnUsage before later b a status.BadWorld = ⊥
+OnUsage before later b a status.TooLong = ⊥
+OnUsage before later b a status.GoesOn = ⊥
+OnUsage before later b a status.OutOfMemory = ⊥
+OnUsage before later b a status.Unspecified = ⊥
+
+-- THE PROGRAM: how it ends
+abbrev pub Ends : Option Asked → Option (List ℕ) → Option (List ℕ) → ℕ → ℕ → Sinks → Sinks → Status → Type 0
+Ends None before later faults now b a s = OnUsage before later b a s
+Ends (Some asked) before later faults now b a status.Usage = ⊥
+Ends (Some asked) before later faults now b a status.Done = OnInput asked before later b a status.Done
+Ends (Some asked) before later faults now b a status.Refused = OnInput asked before later b a status.Refused
+Ends (Some asked) before later faults now b a status.WriteFault = OnInput asked before later b a status.WriteFault
+Ends (Some asked) before later faults now b a status.BadWorld = OnInput asked before later b a status.BadWorld
+Ends (Some asked) before later faults now b a status.GoesOn = OnInput asked before later b a status.GoesOn
+Ends (Some asked) before later faults now b a status.Unspecified = OnInput asked before later b a status.Unspecified
+Ends (Some asked) before later faults now b a status.ReadFault = Rose faults now × (a.held ≡ b.held) × Line b a (codes "bash2sh: read fault\n")
+Ends (Some asked) before later faults now b a status.TooLong =
+    (taken : List ℕ) × Took before later taken × (length taken ≡ limit_of asked + 1) × (a.held ≡ b.held) × Line b a (codes "bash2sh: too long\n")
+Ends (Some asked) before later faults now b a status.OutOfMemory = (a.held ≡ b.held) × Line b a (codes "bash2sh: out of memory\n")

@@ -1,6 +1,6 @@
 //! The bytes of a script.
 
-ghost use Rattle.std.specs.Prelude.{◌≡◌, length};
+ghost use Rattle.std.specs.Prelude.{◌≡◌, ◌<◌, ◌^◌, length};
 ghost use Rattle.bash2sh.specs.declared.input.InputFault.TheVariants as input;
 ghost use Rattle.bash2sh.specs.Answers.{GivesInput};
 ghost use Rattle.bash2sh.specs.Input.{Reads};
@@ -8,8 +8,11 @@ ghost use Rattle.bash2sh.specs.Input.{Reads};
 use span_text::{Failed, Memory, Source, Text};
 use std::alloc::{AllocError, Global};
 
-/// How many bytes a script may have.
+/// How many bytes a Bash script may have.
 pub const LIMIT: usize = 1_048_576;
+
+/// How many bytes sh text and a job may have.
+pub const LARGE_LIMIT: usize = 16_777_216;
 
 /// How many bytes are asked for at once.
 const PIECE: usize = 4_096;
@@ -62,14 +65,15 @@ fn read_some<S: Source>(
     Ok(count)
 }
 
-/// All bytes of the source, at most `LIMIT`.
-pub fn read_all<S: Source>(alloc: Global, source: &mut S) -> Result<Text, InputFault>
-    ensures { GivesInput (S.left source.old) (S.left source.new) (S.faults source.old) (S.faults source.new) result }
+/// All bytes of the source, at most so many.
+pub fn read_all<S: Source>(alloc: Global, source: &mut S, limit: usize) -> Result<Text, InputFault>
+    requires { limit < 2 ^ 32 }
+    ensures { GivesInput limit (S.left source.old) (S.left source.new) (S.faults source.old) (S.faults source.new) result }
 {
     let mut buffer = [0u8; PIECE];
     let mut text = Text::new(alloc);
-    'pieces: while text.bytes().len() <= LIMIT {
-        let rest = LIMIT + 1 - text.bytes().len();
+    'pieces: while text.bytes().len() <= limit {
+        let rest = limit + 1 - text.bytes().len();
         let (room, _) = buffer.split_at_mut(rest.min(PIECE));
         if read_some(source, room, &mut text)? == 0 {
             return Ok(text);

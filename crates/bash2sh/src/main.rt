@@ -6,23 +6,27 @@
 //! sh tree. `messages` has the lines for standard error.
 #![tactic(auto)]
 
+mod asked;
 mod commands;
 mod fault;
 mod form;
 mod input;
+mod jobs;
 mod language;
 mod lines;
 mod lowering;
 mod messages;
 mod program;
+mod status;
 #[cfg(test)]
 mod tests;
 mod translator;
 mod words;
 
 use messages::{say_out_of_memory, say_usage};
-use program::{Status, bash2sh};
+use program::bash2sh;
 use span_text::{StandardError, StandardInput, StandardOutput};
+use status::Status;
 use std::io::ErrorKind;
 use std::process::ExitCode;
 

@@ -1,11 +1,14 @@
 //! The lines that the program says.
 
-ghost use Rattle.std.specs.Prelude.{◌∷◌, ◌++◌, codes, decimal};
+ghost use Rattle.std.specs.Prelude.{[], ◌∷◌, ◌++◌, codes, decimal};
+ghost use Rattle.world_json.specs.Judging.{reason_word};
+ghost use Rattle.bash2sh.specs.Answers.{bad_world_line};
 ghost use Rattle.span_text.specs.Streams.{Wrote};
 ghost use Rattle.bash2sh.specs.Answers.{Said, refused_line};
 
 use itoa::Buffer;
 use span_text::{Failed, Place, Sink, write_all};
+use world_json::Reason;
 
 /// Writes a line; a failure leaves a front of it.
 pub fn say<E: Sink>(err: &mut E, line: &[u8])
@@ -78,4 +81,28 @@ fn write_number<E: Sink>(err: &mut E, n: u32) -> Result<(), Failed>
 {
     let mut buffer = Buffer::new();
     write_all(err, buffer.format(n).as_bytes())
+}
+
+/// Says which field of a job is bad, and why.
+pub fn say_bad_world<E: Sink>(err: &mut E, pointer: &[u8], reason: Reason)
+    ensures { Said (E.held err.old) (E.held err.new) (E.faults err.old) (E.faults err.new) (bad_world_line pointer.now reason) }
+{
+    let _ = write_bad_world(err, pointer, reason);
+}
+
+fn write_bad_world<E: Sink>(err: &mut E, pointer: &[u8], reason: Reason) -> Result<(), Failed>
+    ensures { Wrote (E.held err.old) (E.held err.new) (E.faults err.old) (E.faults err.new) result (bad_world_line pointer.now reason) }
+{
+    write_all(err, b"bash2sh: ")?;
+    write_all(err, pointer)?;
+    write_reason(err, reason)
+}
+
+/// `: reserved`
+fn write_reason<E: Sink>(err: &mut E, reason: Reason) -> Result<(), Failed>
+    ensures { Wrote (E.held err.old) (E.held err.new) (E.faults err.old) (E.faults err.new) result (codes ": " ++ (reason_word reason ++ 10 ∷ [])) }
+{
+    write_all(err, b": ")?;
+    write_all(err, reason.word().as_bytes())?;
+    write_all(err, b"\n")
 }

@@ -1,65 +1,20 @@
 //! The program's one call.
 
-ghost use Rattle.std.specs.Prelude.{◌≡◌, ◌≤◌, ◌∷◌, [], length, map, string_bytes};
+ghost use Rattle.std.specs.Prelude.{◌≤◌, Some, length, map, string_bytes};
 ghost use Rattle.bash2sh.specs.Answers.{limit};
-ghost use Rattle.bash2sh.specs.Program.{number_of, asks_translate, OnText, Ends};
+ghost use Rattle.bash2sh.specs.Program.{asked_of, limit_of, OnText, OnBytes, Ends};
 
+use crate::asked::{Asked, asked_of};
 use crate::fault::TranslateFault;
 use crate::input::{InputFault, read_all};
+use crate::jobs::run_job;
 use crate::messages::{
     say_out_of_memory, say_read_fault, say_refused, say_too_long, say_usage, say_write_fault,
 };
+use crate::status::Status;
 use crate::translator::translate;
 use span_text::{Sink, Source, place_of};
 use std::alloc::Global;
-
-/// How a run ends.
-#[derive(Clone, Copy, Debug, PartialEq, Eq)]
-pub enum Status {
-    /// The translation was written.
-    Done,
-    /// The words aren't `translate` alone. Nothing was read.
-    Usage,
-    /// The script has a line of no form that is taken.
-    Refused,
-    ReadFault,
-    WriteFault,
-    /// The script has more bytes than a script may have.
-    TooLong,
-    OutOfMemory,
-}
-
-impl Status {
-    /// The exit status.
-    pub fn number(self) -> u8
-        ensures { result ≡ number_of self }
-    {
-        match self {
-            Status::Done => 0,
-            Status::Usage => 2,
-            Status::Refused => 3,
-            Status::ReadFault => 4,
-            Status::WriteFault => 5,
-            Status::TooLong => 7,
-            Status::OutOfMemory => 9,
-        }
-    }
-}
-
-fn is_translate(word: &[u8]) -> bool
-    ensures { result ≡ asks_translate (word.now ∷ []) }
-{
-    word == b"translate".as_slice()
-}
-
-fn asks_translate(words: &[String]) -> bool
-    ensures { result ≡ asks_translate (map string_bytes words.now) }
-{
-    match words {
-        [word] => is_translate(word.as_bytes()),
-        _ => false,
-    }
-}
 
 /// Translates a script's text, and says what kept it from that.
 fn answer<K: Sink, E: Sink>(alloc: Global, text: &[u8], out: &mut K, err: &mut E) -> Status
@@ -83,23 +38,35 @@ fn answer<K: Sink, E: Sink>(alloc: Global, text: &[u8], out: &mut K, err: &mut E
     }
 }
 
-/// Runs the command that the words name: `translate` reads a Bash script from `source` and writes its sh text to
-/// `out`. What kept it from that is a line on `err`.
-pub fn bash2sh<S: Source, K: Sink, E: Sink>(
+/// Runs a command on the bytes that it was given.
+fn run_on<K: Sink, E: Sink>(
     alloc: Global,
-    words: &[String],
+    asked: Asked,
+    bytes: &[u8],
+    out: &mut K,
+    err: &mut E,
+) -> Status
+    requires { length bytes.now ≤ limit_of asked }
+    ensures { OnBytes asked (record { held = K.held out.old; write_faults = K.faults out.old; said = E.held err.old; say_faults = E.faults err.old }) (record { held = K.held out.new; write_faults = K.faults out.new; said = E.held err.new; say_faults = E.faults err.new }) bytes.now result }
+{
+    match asked {
+        Asked::Translate => answer(alloc, bytes, out, err),
+        Asked::Run(language) => run_job(alloc, language, bytes, out, err),
+    }
+}
+
+/// Reads all that a command takes, and runs it.
+fn run_asked<S: Source, K: Sink, E: Sink>(
+    alloc: Global,
+    asked: Asked,
     source: &mut S,
     out: &mut K,
     err: &mut E,
 ) -> Status
-    ensures { Ends (asks_translate (map string_bytes words.now)) (S.left source.old) (S.left source.new) (S.faults source.old) (S.faults source.new) (record { held = K.held out.old; write_faults = K.faults out.old; said = E.held err.old; say_faults = E.faults err.old }) (record { held = K.held out.new; write_faults = K.faults out.new; said = E.held err.new; say_faults = E.faults err.new }) result }
+    ensures { Ends (Some asked) (S.left source.old) (S.left source.new) (S.faults source.old) (S.faults source.new) (record { held = K.held out.old; write_faults = K.faults out.old; said = E.held err.old; say_faults = E.faults err.old }) (record { held = K.held out.new; write_faults = K.faults out.new; said = E.held err.new; say_faults = E.faults err.new }) result }
 {
-    if !asks_translate(words) {
-        say_usage(err);
-        return Status::Usage;
-    }
-    match read_all(alloc, source) {
-        Ok(text) => answer(alloc, text.bytes(), out, err),
+    match read_all(alloc, source, asked.limit()) {
+        Ok(text) => run_on(alloc, asked, text.bytes(), out, err),
         Err(InputFault::Failed) => {
             say_read_fault(err);
             Status::ReadFault
@@ -111,6 +78,26 @@ pub fn bash2sh<S: Source, K: Sink, E: Sink>(
         Err(InputFault::Memory) => {
             say_out_of_memory(err);
             Status::OutOfMemory
+        }
+    }
+}
+
+/// Runs the command that the words name. `translate` reads a Bash script from `source` and writes its sh text to
+/// `out`; `run-bash` and `run-sh` read a job and write the report of its run. What kept it from that is a line on `err`.
+pub fn bash2sh<S: Source, K: Sink, E: Sink>(
+    alloc: Global,
+    words: &[String],
+    source: &mut S,
+    out: &mut K,
+    err: &mut E,
+) -> Status
+    ensures { Ends (asked_of (map string_bytes words.now)) (S.left source.old) (S.left source.new) (S.faults source.old) (S.faults source.new) (record { held = K.held out.old; write_faults = K.faults out.old; said = E.held err.old; say_faults = E.faults err.old }) (record { held = K.held out.new; write_faults = K.faults out.new; said = E.held err.new; say_faults = E.faults err.new }) result }
+{
+    match asked_of(words) {
+        Some(asked) => run_asked(alloc, asked, source, out, err),
+        None => {
+            say_usage(err);
+            Status::Usage
         }
     }
 }

@@ -1,7 +1,8 @@
 use crate::fault::TranslateFault;
-use crate::input::read_all;
+use crate::input::{LIMIT, read_all};
 use crate::messages::say_refused;
-use crate::program::{Status, bash2sh};
+use crate::program::bash2sh;
+use crate::status::Status;
 use crate::translator::translate;
 use span_text::{List, Memory, MemorySink, MemorySource, Place, Text};
 use std::alloc::Global;
@@ -36,7 +37,7 @@ fn another_line_is_refused_at_its_place(rt: HostRuntime) -> Result<(), Fail> {
 fn all_bytes_of_a_source_are_taken(rt: HostRuntime) -> Result<(), Fail> {
     let bytes = Text::copy(rt.alloc(), b"show a\n")?;
     let mut source = MemorySource::new(bytes, 3, List::new(rt.alloc()));
-    match read_all(rt.alloc(), &mut source) {
+    match read_all(rt.alloc(), &mut source, LIMIT) {
         Ok(text) => assert_eq!(rt; text.bytes(), b"show a\n".as_slice()),
         Err(_) => assert!(rt; false),
     }

@@ -1,0 +1,5 @@
+use Rattle.bash2sh.proofs.Reporting.{script_fits}
+use Rattle.bash2sh.proofs.jobs.run_job.Goals as goal
+
+pub run_script-requires : goal.run_script-requires
+run_script-requires g c = ?
