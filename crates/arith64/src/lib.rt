@@ -4,11 +4,21 @@
 //! their contracts cite stands in `specs/Values.antt` and in `specs/Constant.antt` of `span_text`.
 #![tactic(auto)]
 
+mod expressions;
 mod fault;
+mod frames;
+mod laws;
+mod levels;
 mod numbers;
 mod operators;
+mod parser;
+mod pending;
+mod reader;
+mod reducing;
 
-pub use fault::ArithFault;
+pub use expressions::read_expr;
+pub use fault::{ArithFault, ExprFault};
+pub use laws::one_expression;
 pub use numbers::constant;
 pub use operators::apply;
 

@@ -1,0 +1,553 @@
+-- Reading cells one by one is reading their tokens.
+use Rattle.std.proofs.Common.{◌≡◌, ℕ, Bool, true, false, List, [], ◌∷◌, ◌++◌, Option, Some, None, refl, sym, ap, subst, ◌∙◌, eqb, cond, nat_le, append_assoc}
+use Rattle.std.specs.Prelude.{◌==◌, if◌then◌else◌, ◌&&◌, ◌||◌}
+use Rattle.std.proofs.Math.Path.{fun_ext}
+use Rattle.std.proofs.lemmas.List.{append-nil}
+use Rattle.std.proofs.lemmas.Bool.{eqb-true}
+use Rattle.span_text.specs.declared.expr.BinOp.TheVariants as op
+use Rattle.span_text.specs.declared.expr.Expr.{Expr}
+use Rattle.span_text.specs.declared.sign.Infix.TheVariants.{Plain, And, Or, Comma}
+use Rattle.span_text.specs.declared.sign.Sign.{Sign}
+use Rattle.span_text.specs.declared.sign.Sign.TheVariants.{Between, Assign, Not, Complement, Increment, Decrement, Question, Colon, Open, Close, EndIndex}
+use Rattle.span_text.specs.Constant.{unsigned_constant}
+use Rattle.span_text.specs.Names as names
+use Rattle.span_text.specs.Names.{is_name, begins_name, continues_name}
+use Rattle.span_text.specs.ExprTokens.{Cell, byte, expansion, is_byte, without_joins, Token, number, name, indexed, operand, sign, sign_of, longer, Begun, gap, word, operator, whole, operator_if, is_gap, begun, grown, greatest, number_if, finished, ◌then◌, if_begun, tokens}
+use Rattle.arith64.specs.declared.frames.Frame.{Frame}
+use Rattle.arith64.specs.declared.frames.Slot.{Slot}
+use Rattle.arith64.specs.declared.frames.Slot.TheVariants.{Wanted, Stepping, Held}
+use Rattle.arith64.specs.declared.frames.Parser.{Parser}
+use Rattle.arith64.specs.declared.pending.Digits.{Digits}
+use Rattle.arith64.specs.declared.pending.Pending.{Pending}
+use Rattle.arith64.specs.declared.pending.Pending.TheVariants.{Gap, Name, Number, Operator}
+use Rattle.arith64.specs.declared.reader.Reader.{Reader}
+use Rattle.arith64.specs.Parsing.{◌>>=◌, prefix_at, shift, shift_at, run, accept, parsed, nothing_read}
+use Rattle.arith64.specs.Reader.{first_digit, next_digit, value_of_digits, may_grow, is_prefix, opens, wants_operand, wants_variable, settled, enter_word, enter_sign, enter_sign_if, start, number_at, finish, flush, as_number, more_name, more_number, more_sign, step, reader, placed, read_cell, read_cells, read_end, at_start}
+use Rattle.arith64.proofs.Words.{is_digit_else, name_more, IsNumber, number_first, number_more, number_none, Small, SmallDigits, next_small, first_small}
+
+-- ---- options and runs
+
+bind_none : {A B : Type 0} (o : Option A) → ◌>>=◌ {A = A} {B = B} o (λ x. None) ≡ None
+bind_none (Some x) = refl
+bind_none None = refl
+
+bind_some : {A : Type 0} (o : Option A) → (o >>= λ x. Some x) ≡ o
+bind_some (Some x) = refl
+bind_some None = refl
+
+then_nil : (o : Option (List Token)) → (Some [] then o) ≡ o
+then_nil None = refl
+then_nil (Some ts) = refl
+
+abbrev ends : Parser → List Token → Option Expr
+ends p ts = run p ts >>= accept
+
+step_append : (o : Option Parser) (ts us : List Token) → ((q : Parser) → ends q (ts ++ us) ≡ (run q ts >>= λ x. ends x us)) → ((o >>= λ q. run q (ts ++ us)) >>= accept) ≡ ((o >>= λ q. run q ts) >>= λ x. ends x us)
+step_append None ts us h = refl
+step_append (Some q) ts us h = h q
+
+ends_append : (ts us : List Token) (p : Parser) → ends p (ts ++ us) ≡ (run p ts >>= λ q. ends q us)
+ends_append [] us p = refl
+ends_append (t ∷ ts) us p = step_append (shift p t) ts us (λ q. ends_append ts us q)
+
+-- tokens and then tokens
+then_ends : (a b : Option (List Token)) (p : Parser) → ((a then b) >>= ends p) ≡ ((a >>= run p) >>= λ q. b >>= ends q)
+then_ends None b p = refl
+then_ends (Some ts) None p = sym (bind_none (run p ts))
+then_ends (Some ts) (Some us) p = ends_append ts us p
+
+-- what comes of cells behind what was begun
+abbrev ahead : Begun → Parser → List Cell → Option Expr
+ahead x p cs = tokens x cs >>= ends p
+
+-- behind a token that nothing makes longer
+whole_tokens : (t : Token) (cs : List Cell) → tokens (whole t) cs ≡ (Some (t ∷ []) then tokens gap cs)
+whole_tokens t [] = refl
+whole_tokens t (c ∷ cs) = ap (λ (o : Option (List Token)). Some (t ∷ []) then o) (sym (then_nil (if_begun (begun c) (λ y. tokens y cs) None)))
+
+one_then : (t : Token) (o : Option (List Token)) (p : Parser) → ((Some (t ∷ []) then o) >>= ends p) ≡ (shift p t >>= λ q. o >>= ends q)
+one_then t o p = then_ends (Some (t ∷ [])) o p ∙ ap (λ (r : Option Parser). r >>= λ q. o >>= ends q) (bind_some (shift p t))
+
+whole_ahead : (t : Token) (p : Parser) (cs : List Cell) → ahead (whole t) p cs ≡ (shift p t >>= λ q. ahead gap q cs)
+whole_ahead t p cs = ap (λ (o : Option (List Token)). o >>= ends p) (whole_tokens t cs) ∙ one_then t (tokens gap cs) p
+
+gap_ahead : (p : Parser) (c : Cell) (cs : List Cell) → ahead gap p (c ∷ cs) ≡ (if_begun (begun c) (λ y. tokens y cs) None >>= ends p)
+gap_ahead p c cs = ap (λ (o : Option (List Token)). o >>= ends p) (then_nil (if_begun (begun c) (λ y. tokens y cs) None))
+
+-- what was begun is over before this cell
+over_ahead : (x : Begun) (p : Parser) (c : Cell) (cs : List Cell) → grown x c ≡ None → ahead x p (c ∷ cs) ≡ ((finished x >>= run p) >>= λ q. ahead gap q (c ∷ cs))
+over_ahead x p c cs e =
+    ap (λ (o : Option Begun). if_begun o (λ y. tokens y cs) (finished x then if_begun (begun c) (λ y. tokens y cs) None) >>= ends p) e
+    ∙ then_ends (finished x) (if_begun (begun c) (λ y. tokens y cs) None) p
+    ∙ ap (λ (f : Parser → Option Expr). (finished x >>= run p) >>= f) (fun_ext (λ q. sym (gap_ahead q c cs)))
+
+-- ---- signs that nothing makes longer
+
+final_longer : (s : Sign) (b : ℕ) → may_grow s ≡ false → longer s b ≡ None
+unfolding longer
+final_longer (Between And) b e = refl
+final_longer (Between Or) b e = refl
+final_longer (Between Comma) b e = refl
+final_longer (Between (Plain op.Power)) b e = refl
+final_longer (Between (Plain op.AtMost)) b e = refl
+final_longer (Between (Plain op.AtLeast)) b e = refl
+final_longer (Between (Plain op.Equal)) b e = refl
+final_longer (Between (Plain op.Unequal)) b e = refl
+final_longer (Between (Plain o)) b e = absurd cc
+final_longer (Assign (Some o)) b e = refl
+final_longer (Assign None) b e = absurd cc
+final_longer Not b e = absurd cc
+final_longer Complement b e = refl
+final_longer Increment b e = refl
+final_longer Decrement b e = refl
+final_longer Question b e = refl
+final_longer Colon b e = refl
+final_longer Open b e = refl
+final_longer Close b e = refl
+final_longer EndIndex b e = refl
+
+final_grown : (s : Sign) (c : Cell) → may_grow s ≡ false → grown (operator s) c ≡ None
+final_grown s (expansion n) e = refl
+final_grown s (byte b) e = ap operator_if (final_longer s b e)
+
+final_tokens : (s : Sign) (cs : List Cell) → may_grow s ≡ false → tokens (operator s) cs ≡ (Some (sign s ∷ []) then tokens gap cs)
+final_tokens s [] e = refl
+final_tokens s (c ∷ cs) e =
+    ap (λ (o : Option Begun). if_begun o (λ y. tokens y cs) (Some (sign s ∷ []) then if_begun (begun c) (λ y. tokens y cs) None)) (final_grown s c e)
+    ∙ ap (λ (o : Option (List Token)). Some (sign s ∷ []) then o) (sym (then_nil (if_begun (begun c) (λ y. tokens y cs) None)))
+
+final_ahead : (s : Sign) (p : Parser) (cs : List Cell) → may_grow s ≡ false → ahead (operator s) p cs ≡ (shift p (sign s) >>= λ q. ahead gap q cs)
+final_ahead s p cs e = ap (λ (o : Option (List Token)). o >>= ends p) (final_tokens s cs e) ∙ one_then (sign s) (tokens gap cs) p
+
+-- ---- signs that can't stand here, whatever they become
+
+abbrev IfSign : (Sign → Type 0) → Option Sign → Type 0
+IfSign P None = Unit {0}
+IfSign P (Some s) = P s
+
+-- a sign and all that it becomes are refused
+dead_sign : (P : Sign → Type 0) (p : Parser) → ((s : Sign) → P s → shift p (sign s) ≡ None) → ((s : Sign) (b : ℕ) → P s → IfSign P (longer s b)) → (cs : List Cell) (s : Sign) → P s → ahead (operator s) p cs ≡ None
+dead_sign P p refuses closed [] s h = ap (λ (o : Option Parser). (o >>= λ q. Some q) >>= accept) (refuses s h)
+dead_sign P p refuses closed (expansion n ∷ cs) s h = over_ahead (operator s) p (expansion n) cs refl ∙ ap (λ (o : Option Parser). (o >>= λ q. Some q) >>= λ q. ahead gap q (expansion n ∷ cs)) (refuses s h)
+dead_sign P p refuses closed (byte b ∷ cs) s h = becomes (longer s b) refl (closed s b h) (λ t k. dead_sign P p refuses closed cs t k)
+  where
+    becomes : (o : Option Sign) → longer s b ≡ o → IfSign P o → ((t : Sign) → P t → ahead (operator t) p cs ≡ None) → ahead (operator s) p (byte b ∷ cs) ≡ None
+    becomes None e k next = over_ahead (operator s) p (byte b) cs (ap operator_if e) ∙ ap (λ (o : Option Parser). (o >>= λ q. Some q) >>= λ q. ahead gap q (byte b ∷ cs)) (refuses s h)
+    becomes (Some t) e k next =
+        ap (λ (o : Option Sign). if_begun (operator_if o) (λ y. tokens y cs) (Some (sign s ∷ []) then if_begun (begun (byte b)) (λ y. tokens y cs) None) >>= ends p) e
+        ∙ next t k
+
+-- the signs that stand before no operand
+abbrev is_refused : Sign → Bool
+is_refused (Between (Plain op.Add)) = false
+is_refused (Between (Plain op.Subtract)) = false
+is_refused Not = false
+is_refused Complement = false
+is_refused Increment = false
+is_refused Decrement = false
+is_refused Open = false
+is_refused s = true
+
+abbrev IsRefused : Sign → Type 0
+IsRefused s = is_refused s ≡ true
+
+refused_prefix : (fs : List Frame) (s : Sign) → IsRefused s → prefix_at fs s ≡ None
+refused_prefix fs (Between And) e = refl
+refused_prefix fs (Between Or) e = refl
+refused_prefix fs (Between Comma) e = refl
+refused_prefix fs (Between (Plain op.Add)) e = absurd cc
+refused_prefix fs (Between (Plain op.Subtract)) e = absurd cc
+refused_prefix fs (Between (Plain o)) e = refl
+refused_prefix fs (Assign o) e = refl
+refused_prefix fs Not e = absurd cc
+refused_prefix fs Complement e = absurd cc
+refused_prefix fs Increment e = absurd cc
+refused_prefix fs Decrement e = absurd cc
+refused_prefix fs Question e = refl
+refused_prefix fs Colon e = refl
+refused_prefix fs Open e = absurd cc
+refused_prefix fs Close e = refl
+refused_prefix fs EndIndex e = refl
+
+if_one : (t : Bool) (a : Sign) → IsRefused a → IfSign IsRefused (if t then Some a else None)
+if_one true a h = h
+if_one false a h = tt
+
+if_two : (t u : Bool) (a b : Sign) → IsRefused a → IsRefused b → IfSign IsRefused (if t then Some a else (if u then Some b else None))
+if_two true u a b h k = h
+if_two false u a b h k = if_one u b k
+
+closed_refused : (s : Sign) (b : ℕ) → IsRefused s → IfSign IsRefused (longer s b)
+unfolding longer
+closed_refused (Between And) b e = tt
+closed_refused (Between Or) b e = tt
+closed_refused (Between Comma) b e = tt
+closed_refused (Between (Plain op.Add)) b e = absurd cc
+closed_refused (Between (Plain op.Subtract)) b e = absurd cc
+closed_refused (Between (Plain op.Times)) b e = if_two (b == 42) (b == 61) (Between (Plain op.Power)) (Assign (Some op.Times)) refl refl
+closed_refused (Between (Plain op.Divide)) b e = if_one (b == 61) (Assign (Some op.Divide)) refl
+closed_refused (Between (Plain op.Remainder)) b e = if_one (b == 61) (Assign (Some op.Remainder)) refl
+closed_refused (Between (Plain op.Less)) b e = if_two (b == 60) (b == 61) (Between (Plain op.ShiftLeft)) (Between (Plain op.AtMost)) refl refl
+closed_refused (Between (Plain op.Greater)) b e = if_two (b == 62) (b == 61) (Between (Plain op.ShiftRight)) (Between (Plain op.AtLeast)) refl refl
+closed_refused (Between (Plain op.ShiftLeft)) b e = if_one (b == 61) (Assign (Some op.ShiftLeft)) refl
+closed_refused (Between (Plain op.ShiftRight)) b e = if_one (b == 61) (Assign (Some op.ShiftRight)) refl
+closed_refused (Between (Plain op.BitAnd)) b e = if_two (b == 38) (b == 61) (Between And) (Assign (Some op.BitAnd)) refl refl
+closed_refused (Between (Plain op.BitXor)) b e = if_one (b == 61) (Assign (Some op.BitXor)) refl
+closed_refused (Between (Plain op.BitOr)) b e = if_two (b == 124) (b == 61) (Between Or) (Assign (Some op.BitOr)) refl refl
+closed_refused (Between (Plain o)) b e = tt
+closed_refused (Assign None) b e = if_one (b == 61) (Between (Plain op.Equal)) refl
+closed_refused (Assign (Some o)) b e = tt
+closed_refused Not b e = absurd cc
+closed_refused Complement b e = absurd cc
+closed_refused Increment b e = absurd cc
+closed_refused Decrement b e = absurd cc
+closed_refused Question b e = tt
+closed_refused Colon b e = tt
+closed_refused Open b e = absurd cc
+closed_refused Close b e = tt
+closed_refused EndIndex b e = tt
+
+not_prefix : (s : Sign) → may_grow s ≡ true → is_prefix s ≡ false → IsRefused s
+not_prefix (Between And) g e = refl
+not_prefix (Between Or) g e = refl
+not_prefix (Between Comma) g e = refl
+not_prefix (Between (Plain op.Add)) g e = absurd cc
+not_prefix (Between (Plain op.Subtract)) g e = absurd cc
+not_prefix (Between (Plain o)) g e = refl
+not_prefix (Assign o) g e = refl
+not_prefix Not g e = absurd cc
+not_prefix Complement g e = absurd cc
+not_prefix Increment g e = absurd cc
+not_prefix Decrement g e = absurd cc
+not_prefix Question g e = refl
+not_prefix Colon g e = refl
+not_prefix Open g e = absurd cc
+not_prefix Close g e = refl
+not_prefix EndIndex g e = refl
+
+any_sign : (o : Option Sign) → IfSign (λ s. Unit {0}) o
+any_sign None = tt
+any_sign (Some s) = tt
+
+closed_sign : (fs : List Frame) (slot : Slot) (s : Sign) (cs : List Cell) → may_grow s ≡ true → opens slot s ≡ false → ahead (operator s) (record { frames = fs; slot = slot }) cs ≡ None
+closed_sign fs Wanted s cs g e = dead_sign IsRefused (record { frames = fs; slot = Wanted }) (λ t h. refused_prefix fs t h) closed_refused cs s (not_prefix s g e)
+closed_sign fs (Stepping o) s cs g e = dead_sign (λ t. Unit {0}) (record { frames = fs; slot = Stepping o }) (λ t h. refl) (λ t b h. any_sign (longer t b)) cs s tt
+closed_sign fs (Held a bare) s cs g e = absurd cc
+
+-- ---- words that can't stand here
+
+-- this word can't stand here
+record Refused (p : Parser) (w : List ℕ) : Type 0 where
+  over : (finished (word w) >>= run p) ≡ None
+  index : is_name w ≡ true → shift p (indexed w) ≡ None
+
+here : (w : List ℕ) (p : Parser) → ((v : List ℕ) → Refused p (w ++ v)) → Refused p w
+here w p h = subst (Refused p) (append-nil w) (h [])
+
+further : (w : List ℕ) (b : ℕ) (p : Parser) → ((v : List ℕ) → Refused p (w ++ v)) → (v : List ℕ) → Refused p ((w ++ b ∷ []) ++ v)
+further w b p h v = subst (Refused p) (sym (append_assoc w (b ∷ []) v)) (h (b ∷ v))
+
+over_none : (w : List ℕ) (p : Parser) (c : Cell) (cs : List Cell) → grown (word w) c ≡ None → Refused p w → ahead (word w) p (c ∷ cs) ≡ None
+over_none w p c cs e h = over_ahead (word w) p c cs e ∙ ap (λ (o : Option Parser). o >>= λ q. ahead gap q (c ∷ cs)) h.over
+
+abbrev grown_word : List ℕ → Bool → Bool → ℕ → Option Begun
+grown_word w t u b = if t then Some (word (w ++ b ∷ [])) else (if u then Some (whole (indexed w)) else None)
+
+abbrev behind_word : List ℕ → Parser → ℕ → List Cell → Option Begun → Option Expr
+behind_word w p b cs o = if_begun o (λ y. tokens y cs) (finished (word w) then if_begun (begun (byte b)) (λ y. tokens y cs) None) >>= ends p
+
+two_trues : (x y : Bool) → (x && y) ≡ true → y ≡ true
+two_trues true y e = e
+two_trues false y e = absurd cc
+
+-- a word and all that it becomes are refused
+dead_word : (cs : List Cell) (w : List ℕ) (p : Parser) → ((v : List ℕ) → Refused p (w ++ v)) → ahead (word w) p cs ≡ None
+dead_word [] w p h = lemma (finished (word w)) (here w p h).over
+  where
+    lemma : (o : Option (List Token)) → (o >>= run p) ≡ None → (o >>= ends p) ≡ None
+    lemma None e = refl
+    lemma (Some ts) e = ap (λ (r : Option Parser). r >>= accept) e
+dead_word (expansion n ∷ cs) w p h = over_none w p (expansion n) cs refl (here w p h)
+dead_word (byte b ∷ cs) w p h = becomes (continues_name b) (b == 91 && is_name w) refl refl (dead_word cs (w ++ b ∷ []) p (further w b p h))
+  where
+    becomes : (t u : Bool) → continues_name b ≡ t → (b == 91 && is_name w) ≡ u → ahead (word (w ++ b ∷ [])) p cs ≡ None → ahead (word w) p (byte b ∷ cs) ≡ None
+    becomes true u e f next = ap (λ (t : Bool). behind_word w p b cs (grown_word w t (b == 91 && is_name w) b)) e ∙ next
+    becomes false true e f next =
+        ap (λ (t : Bool). behind_word w p b cs (grown_word w t (b == 91 && is_name w) b)) e
+        ∙ ap (λ (u : Bool). behind_word w p b cs (grown_word w false u b)) f
+        ∙ whole_ahead (indexed w) p cs
+        ∙ ap (λ (o : Option Parser). o >>= λ q. ahead gap q cs) ((here w p h).index (two_trues (b == 91) (is_name w) f))
+    becomes false false e f next =
+        over_none w p (byte b) cs (ap (λ (t : Bool). grown_word w t (b == 91 && is_name w) b) e ∙ ap (λ (u : Bool). grown_word w false u b) f) (here w p h)
+
+number_none_at : (p : Parser) → ((n : ℕ) → shift p (number n) ≡ None) → (o : Option ℕ) → (number_if o >>= run p) ≡ None
+number_none_at p h None = refl
+number_none_at p h (Some n) = ap (λ (o : Option Parser). o >>= λ q. Some q) (h n)
+
+-- where an operand came no word can stand
+closed_words : (fs : List Frame) (slot : Slot) (w : List ℕ) → wants_variable slot ≡ false → Refused (record { frames = fs; slot = slot }) w
+closed_words fs Wanted w e = absurd cc
+closed_words fs (Stepping o) w e = absurd cc
+closed_words fs (Held a bare) w e = record { over = at (is_name w); index = λ k. refl }
+  where
+    at : (t : Bool) → ((if t then Some (name w ∷ []) else number_if (unsigned_constant greatest w)) >>= run (record { frames = fs; slot = Held a bare })) ≡ None
+    at true = refl
+    at false = number_none_at (record { frames = fs; slot = Held a bare }) (λ n. refl) (unsigned_constant greatest w)
+
+closed_number : (fs : List Frame) (slot : Slot) (n : ℕ) → wants_operand slot ≡ false → shift (record { frames = fs; slot = slot }) (number n) ≡ None
+closed_number fs Wanted n e = absurd cc
+closed_number fs (Stepping o) n e = refl
+closed_number fs (Held a bare) n e = refl
+
+unnamed : (p : Parser) (w : List ℕ) → is_name w ≡ false → (number_if (unsigned_constant greatest w) >>= run p) ≡ None → Refused p w
+unnamed p w e h = record {
+  over = ap (λ (t : Bool). (if t then Some (name w ∷ []) else number_if (unsigned_constant greatest w)) >>= run p) e ∙ h;
+  index = λ k. absurd (differ k);
+}
+  where
+    differ : is_name w ≡ true → ⊥
+    differ k = cc
+
+-- a word that begins with a digit is no name
+no_name : (d : ℕ) (v : List ℕ) → begins_name d ≡ false → is_name (d ∷ v) ≡ false
+no_name d v e = rw e refl
+
+-- ---- one cell more
+
+-- a digit comes first
+abbrev IsDigits : List ℕ → Type 0
+IsDigits [] = ⊥
+IsDigits (d ∷ v) = begins_name d ≡ false
+
+no_name_of : (w v : List ℕ) → IsDigits w → is_name (w ++ v) ≡ false
+no_name_of [] v h = absurd h
+no_name_of (d ∷ w) v h = no_name d (w ++ v) h
+
+digits_more : (w : List ℕ) (b : ℕ) → IsDigits w → IsDigits (w ++ b ∷ [])
+digits_more [] b h = absurd h
+digits_more (d ∷ w) b h = h
+
+-- what was begun, as the code and as the spelling have it
+abbrev Sees : Pending → Begun → Type 0
+Sees Gap x = x ≡ gap
+Sees (Name text) x = (x ≡ word text) × (is_name text ≡ true)
+Sees (Number digits) x = (w : List ℕ) × (x ≡ word w) × IsDigits w × IsNumber w digits × Small (value_of_digits digits)
+Sees (Operator s) x = x ≡ operator s
+
+-- what a step comes to: what is ahead stays the same, or is nothing
+abbrev Steps : Option (Pending × Parser) → Begun → Parser → Cell → Type 0
+Steps None x p c = (cs : List Cell) → ahead x p (c ∷ cs) ≡ None
+Steps (Some y) x p c = (z : Begun) × Sees y.0 z × ((cs : List Cell) → ahead x p (c ∷ cs) ≡ ahead z y.1 cs)
+
+settle_steps : (o : Option Parser) (x : Begun) (p : Parser) (c : Cell) → ((cs : List Cell) → ahead x p (c ∷ cs) ≡ (o >>= λ q. ahead gap q cs)) → Steps (settled o) x p c
+settle_steps None x p c h = h
+settle_steps (Some q) x p c h = (gap, refl, h)
+
+-- the same, where what is ahead is that of another place
+moved : (o : Option (Pending × Parser)) (x y : Begun) (p q : Parser) (c d : Cell) → ((cs : List Cell) → ahead x p (c ∷ cs) ≡ ahead y q (d ∷ cs)) → Steps o y q d → Steps o x p c
+moved None x y p q c d same h = λ cs. same cs ∙ h cs
+moved (Some z) x y p q c d same h = (h.0, h.1, λ cs. same cs ∙ h.2 cs)
+
+sign_steps : (s : Sign) (x : Begun) (p q : Parser) (c : Cell) → ((cs : List Cell) → ahead x p (c ∷ cs) ≡ ahead (operator s) q cs) → Steps (enter_sign q s) x p c
+sign_steps s x p q c same = grows (may_grow s) (opens q.slot s) refl refl
+  where
+    grows : (t u : Bool) → may_grow s ≡ t → opens q.slot s ≡ u → Steps (if t then (if u then Some (Operator s, q) else None) else settled (shift q (sign s))) x p c
+    grows true true e f = (operator s, refl, same)
+    grows true false e f = λ cs. same cs ∙ closed_sign q.frames q.slot s cs e f
+    grows false u e f = settle_steps (shift q (sign s)) x p c (λ cs. same cs ∙ final_ahead s q cs e)
+
+word_steps : (b : ℕ) (p : Parser) → continues_name b ≡ true → ((cs : List Cell) → ahead gap p (byte b ∷ cs) ≡ ahead (word (b ∷ [])) p cs) → Steps (enter_word p b) gap p (byte b)
+word_steps b p h same = begins (begins_name b) (wants_variable p.slot) (wants_operand p.slot) refl refl refl
+  where
+    begins : (t u v : Bool) → begins_name b ≡ t → wants_variable p.slot ≡ u → wants_operand p.slot ≡ v →
+        Steps (if t then (if u then Some (Name (b ∷ []), p) else None) else (if v then Some (Number (first_digit b), p) else None)) gap p (byte b)
+    begins true true v e f g = (word (b ∷ []), (refl, rw e refl), same)
+    begins true false v e f g = λ cs. same cs ∙ dead_word cs (b ∷ []) p (λ w. closed_words p.frames p.slot (b ∷ w) f)
+    begins false u true e f g = (word (b ∷ []), (b ∷ [], refl, e, number_first b (is_digit_else b h e), first_small b (is_digit_else b h e)), same)
+    begins false u false e f g = λ cs. same cs ∙ dead_word cs (b ∷ []) p (λ w. unnamed p (b ∷ w) (no_name b w e) (number_none_at p (λ n. closed_number p.frames p.slot n g) (unsigned_constant greatest (b ∷ w))))
+
+begun_ahead : (b : ℕ) (p : Parser) (cs : List Cell) (o : Option Begun) → begun (byte b) ≡ o → ahead gap p (byte b ∷ cs) ≡ (if_begun o (λ y. tokens y cs) None >>= ends p)
+begun_ahead b p cs o e = gap_ahead p (byte b) cs ∙ ap (λ (x : Option Begun). if_begun x (λ y. tokens y cs) None >>= ends p) e
+
+abbrev begun_at : Bool → Bool → Option Sign → ℕ → Option Begun
+begun_at t u s b = if t then Some gap else (if u then Some (word (b ∷ [])) else operator_if s)
+
+begun_is : (b : ℕ) (t u : Bool) (s : Option Sign) → is_gap b ≡ t → continues_name b ≡ u → sign_of b ≡ s → begun (byte b) ≡ begun_at t u s b
+begun_is b t u s e f g = ap (λ (x : Bool). begun_at x (continues_name b) (sign_of b) b) e ∙ ap (λ (x : Bool). begun_at t x (sign_of b) b) f ∙ ap (λ (x : Option Sign). begun_at t u x b) g
+
+start_steps : (p : Parser) (c : Cell) → Steps (start p c) gap p c
+start_steps p (expansion n) = settle_steps (shift p (operand n)) gap p (expansion n) (λ cs. gap_ahead p (expansion n) cs ∙ whole_ahead (operand n) p cs)
+start_steps p (byte b) = starts (is_gap b) (continues_name b) (sign_of b) refl refl refl
+  where
+    starts : (t u : Bool) (s : Option Sign) → is_gap b ≡ t → continues_name b ≡ u → sign_of b ≡ s →
+        Steps (if t then Some (Gap, p) else (if u then enter_word p b else enter_sign_if p s)) gap p (byte b)
+    starts true u s e f g = (gap, refl, λ cs. begun_ahead b p cs (Some gap) (begun_is b true u s e f g))
+    starts false true s e f g = word_steps b p f (λ cs. begun_ahead b p cs (Some (word (b ∷ []))) (begun_is b false true s e f g))
+    starts false false None e f g = λ cs. begun_ahead b p cs None (begun_is b false false None e f g)
+    starts false false (Some s) e f g = sign_steps s gap p p (byte b) (λ cs. begun_ahead b p cs (Some (operator s)) (begun_is b false false (Some s) e f g))
+
+named : (w : List ℕ) (t : Bool) → is_name w ≡ t → finished (word w) ≡ (if t then Some (name w ∷ []) else number_if (unsigned_constant greatest w))
+named w t e = ap (λ (x : Bool). if x then Some (name w ∷ []) else number_if (unsigned_constant greatest w)) e
+
+value_steps : (p : Parser) (o : Option ℕ) → Small o → (o >>= number_at p) ≡ (number_if o >>= run p)
+value_steps p None h = refl
+value_steps p (Some n) h = ap (λ (t : Bool). if t then shift p (number n) else None) h ∙ sym (bind_some (shift p (number n)))
+
+-- what was begun is over, as the code and as the spelling have it
+finish_is : (y : Pending) (x : Begun) (p : Parser) → Sees y x → finish p y ≡ (finished x >>= run p)
+finish_is Gap x p h = rw h refl
+finish_is (Name text) x p h = rw h.0 (sym (ap (λ (o : Option (List Token)). o >>= run p) (named text true h.1) ∙ bind_some (shift p (name text))))
+finish_is (Number digits) x p h =
+    let constant : unsigned_constant greatest h.0 ≡ value_of_digits digits = ap (unsigned_constant greatest) (sym (append-nil h.0)) ∙ h.3 [] in
+    let unnamed_is : is_name h.0 ≡ false = ap is_name (sym (append-nil h.0)) ∙ no_name_of h.0 [] h.2 in
+    rw h.1 (value_steps p (value_of_digits digits) h.4 ∙ sym (ap (λ (o : Option (List Token)). o >>= run p) (named h.0 false unnamed_is) ∙ ap (λ (o : Option ℕ). number_if o >>= run p) constant))
+finish_is (Operator s) x p h = rw h (sym (bind_some (shift p (sign s))))
+
+flush_steps : (y : Pending) (x : Begun) (p : Parser) (c : Cell) → Sees y x → grown x c ≡ None → Steps (flush p y c) x p c
+flush_steps y x p c h e = over (finish p y) (λ cs. over_ahead x p c cs e ∙ ap (λ (o : Option Parser). o >>= λ q. ahead gap q (c ∷ cs)) (sym (finish_is y x p h)))
+  where
+    over : (o : Option Parser) → ((cs : List Cell) → ahead x p (c ∷ cs) ≡ (o >>= λ q. ahead gap q (c ∷ cs))) → Steps (o >>= λ q. start q c) x p c
+    over None same = same
+    over (Some q) same = moved (start q c) x gap p q c c same (start_steps q c)
+
+word_grows : (w : List ℕ) (b : ℕ) (t u : Bool) → continues_name b ≡ t → (b == 91 && is_name w) ≡ u → grown (word w) (byte b) ≡ grown_word w t u b
+word_grows w b t u e f = ap (λ (x : Bool). grown_word w x (b == 91 && is_name w) b) e ∙ ap (λ (x : Bool). grown_word w t x b) f
+
+grown_ahead : (x : Begun) (p : Parser) (c : Cell) (cs : List Cell) (y : Begun) → grown x c ≡ Some y → ahead x p (c ∷ cs) ≡ ahead y p cs
+grown_ahead x p c cs y e = ap (λ (o : Option Begun). if_begun o (λ z. tokens z cs) (finished x then if_begun (begun c) (λ z. tokens z cs) None) >>= ends p) e
+
+and_name : (t : Bool) (w : List ℕ) → is_name w ≡ true → (t && is_name w) ≡ t
+and_name true w h = h
+and_name false w h = refl
+
+and_no_name : (t : Bool) (w : List ℕ) → is_name w ≡ false → (t && is_name w) ≡ false
+and_no_name true w h = h
+and_no_name false w h = refl
+
+name_steps : (text : List ℕ) (p : Parser) (b : ℕ) → is_name text ≡ true → Steps (more_name p text b) (word text) p (byte b)
+name_steps text p b h = goes (continues_name b) (b == 91) refl refl
+  where
+    goes : (t u : Bool) → continues_name b ≡ t → (b == 91) ≡ u →
+        Steps (if t then Some (Name (text ++ b ∷ []), p) else (if u then settled (shift p (indexed text)) else flush p (Name text) (byte b))) (word text) p (byte b)
+    goes true u e f = (word (text ++ b ∷ []), (refl, name_more text b h e), λ cs. grown_ahead (word text) p (byte b) cs (word (text ++ b ∷ [])) (word_grows text b true u e (and_name (b == 91) text h ∙ f)))
+    goes false true e f = settle_steps (shift p (indexed text)) (word text) p (byte b)
+        (λ cs. grown_ahead (word text) p (byte b) cs (whole (indexed text)) (word_grows text b false true e (and_name (b == 91) text h ∙ f)) ∙ whole_ahead (indexed text) p cs)
+    goes false false e f = flush_steps (Name text) (word text) p (byte b) (refl, h) (word_grows text b false false e (and_name (b == 91) text h ∙ f))
+
+number_steps : (w : List ℕ) (digits : Digits) (p : Parser) (b : ℕ) → IsDigits w → IsNumber w digits → Small (value_of_digits digits) → Steps (more_number p digits b) (word w) p (byte b)
+number_steps w digits p b d h small = goes (continues_name b) (next_digit digits b) refl refl (next_small digits b)
+  where
+    unnamed_is : (b == 91 && is_name w) ≡ false
+    unnamed_is = and_no_name (b == 91) w (ap is_name (sym (append-nil w)) ∙ no_name_of w [] d)
+
+    goes : (t : Bool) (o : Option Digits) → continues_name b ≡ t → next_digit digits b ≡ o → SmallDigits o →
+        Steps (if t then as_number p o else flush p (Number digits) (byte b)) (word w) p (byte b)
+    goes true (Some e) c n s = (word (w ++ b ∷ []), (w ++ b ∷ [], refl, digits_more w b d, number_more w b digits e h n, s),
+        λ cs. grown_ahead (word w) p (byte b) cs (word (w ++ b ∷ [])) (word_grows w b true false c unnamed_is))
+    goes true None c n s = λ cs. grown_ahead (word w) p (byte b) cs (word (w ++ b ∷ [])) (word_grows w b true false c unnamed_is)
+        ∙ dead_word cs (w ++ b ∷ []) p (λ v. unnamed p ((w ++ b ∷ []) ++ v) (no_name_of (w ++ b ∷ []) v (digits_more w b d)) (ap (λ (x : Option ℕ). number_if x >>= run p) (number_none w b digits h n v)))
+    goes false o c n s = flush_steps (Number digits) (word w) p (byte b) (w, refl, d, h, small) (word_grows w b false false c unnamed_is)
+
+operator_steps : (s : Sign) (p : Parser) (b : ℕ) → Steps (more_sign p s (longer s b) b) (operator s) p (byte b)
+operator_steps s p b = goes (longer s b) refl
+  where
+    goes : (o : Option Sign) → longer s b ≡ o → Steps (more_sign p s o b) (operator s) p (byte b)
+    goes None e = flush_steps (Operator s) (operator s) p (byte b) refl (ap operator_if e)
+    goes (Some t) e = sign_steps t (operator s) p p (byte b) (λ cs. grown_ahead (operator s) p (byte b) cs (operator t) (ap operator_if e))
+
+no_expansion : (y : Pending) (x : Begun) (n : ℕ) → Sees y x → grown x (expansion n) ≡ None
+no_expansion Gap x n h = rw h refl
+no_expansion (Name text) x n h = rw h.0 refl
+no_expansion (Number digits) x n h = rw h.1 refl
+no_expansion (Operator s) x n h = rw h refl
+
+-- ONE CELL MORE changes nothing of what is ahead
+pub steps_are : (y : Pending) (x : Begun) (p : Parser) (c : Cell) → Sees y x → Steps (step p y c) x p c
+steps_are y x p (expansion n) h = flush_steps y x p (expansion n) h (no_expansion y x n h)
+steps_are Gap x p (byte b) h = rw h (start_steps p (byte b))
+steps_are (Name text) x p (byte b) h = rw h.0 (name_steps text p b h.1)
+steps_are (Number digits) x p (byte b) h = rw h.1 (number_steps h.0 digits p b h.2 h.3 h.4)
+steps_are (Operator s) x p (byte b) h = rw h (operator_steps s p b)
+
+-- ---- joins
+
+no_longer : (s : Sign) → longer s 92 ≡ None
+unfolding longer
+no_longer (Between And) = refl
+no_longer (Between Or) = refl
+no_longer (Between Comma) = refl
+no_longer (Between (Plain op.Power)) = refl
+no_longer (Between (Plain op.Times)) = refl
+no_longer (Between (Plain op.Divide)) = refl
+no_longer (Between (Plain op.Remainder)) = refl
+no_longer (Between (Plain op.Add)) = refl
+no_longer (Between (Plain op.Subtract)) = refl
+no_longer (Between (Plain op.ShiftLeft)) = refl
+no_longer (Between (Plain op.ShiftRight)) = refl
+no_longer (Between (Plain op.Less)) = refl
+no_longer (Between (Plain op.AtMost)) = refl
+no_longer (Between (Plain op.Greater)) = refl
+no_longer (Between (Plain op.AtLeast)) = refl
+no_longer (Between (Plain op.Equal)) = refl
+no_longer (Between (Plain op.Unequal)) = refl
+no_longer (Between (Plain op.BitAnd)) = refl
+no_longer (Between (Plain op.BitXor)) = refl
+no_longer (Between (Plain op.BitOr)) = refl
+no_longer (Assign (Some o)) = refl
+no_longer (Assign None) = refl
+no_longer Not = refl
+no_longer Complement = refl
+no_longer Increment = refl
+no_longer Decrement = refl
+no_longer Question = refl
+no_longer Colon = refl
+no_longer Open = refl
+no_longer Close = refl
+no_longer EndIndex = refl
+
+backslash_begins : begun (byte 92) ≡ None
+unfolding is_gap continues_name sign_of
+backslash_begins = refl
+
+backslash_grows : (x : Begun) → grown x (byte 92) ≡ None
+unfolding continues_name
+backslash_grows gap = refl
+backslash_grows (word w) = refl
+backslash_grows (operator s) = ap operator_if (no_longer s)
+backslash_grows (whole t) = refl
+
+-- a backslash that is no join can't stand anywhere
+no_backslash : (x : Begun) (p : Parser) (cs : List Cell) → ahead x p (byte 92 ∷ cs) ≡ None
+no_backslash x p cs =
+    over_ahead x p (byte 92) cs (backslash_grows x)
+    ∙ ap (λ (f : Parser → Option Expr). (finished x >>= run p) >>= f) (fun_ext (λ q. begun_ahead 92 q cs None backslash_begins))
+    ∙ bind_none (finished x >>= run p)
+
+ends_of : (o : Option (List Token)) (p : Parser) → (o >>= ends p) ≡ ((o >>= run p) >>= accept)
+ends_of None p = refl
+ends_of (Some ts) p = refl
+
+abbrev reads : Bool → Pending → Parser → List Cell → Option Expr
+reads j y p cs = read_cells (reader j (y, p)) cs >>= read_end
+
+stepped_reads : (cs ds : List Cell) (c : Cell) (x : Begun) (p : Parser) (o : Option (Pending × Parser)) → Steps o x p c → ((y : Pending) (z : Begun) (q : Parser) → Sees y z → reads false y q cs ≡ ahead z q ds) →
+    ((placed o >>= λ r. read_cells r cs) >>= read_end) ≡ ahead x p (c ∷ ds)
+stepped_reads cs ds c x p None h next = sym (h ds)
+stepped_reads cs ds c x p (Some y) h next = next y.0 h.0 y.1 h.1 ∙ sym (h.2 ds)
+
+-- READING CELL BY CELL is reading the tokens
+pub exact : (cs : List Cell) (j : Bool) (y : Pending) (x : Begun) (p : Parser) → Sees y x → reads j y p cs ≡ ahead x p (without_joins j cs)
+exact [] false y x p h = ap (λ (o : Option Parser). o >>= accept) (finish_is y x p h) ∙ sym (ends_of (finished x) p)
+exact [] true y x p h = sym (no_backslash x p [])
+exact (c ∷ cs) false y x p h = goes (is_byte 92 c) (exact cs true y x p h) (λ z v q k. exact cs false z v q k)
+  where
+    goes : (t : Bool) → reads true y p cs ≡ ahead x p (without_joins true cs) → ((z : Pending) (v : Begun) (q : Parser) → Sees z v → reads false z q cs ≡ ahead v q (without_joins false cs)) →
+        (((if t then Some (reader true (y, p)) else placed (step p y c)) >>= λ q. read_cells q cs) >>= read_end) ≡ ahead x p (if t then without_joins true cs else c ∷ without_joins false cs)
+    goes true joins next = joins
+    goes false joins next = stepped_reads cs (without_joins false cs) c x p (step p y c) (steps_are y x p c h) next
+exact (c ∷ cs) true y x p h = goes (is_byte 10 c) (exact cs false y x p h)
+  where
+    goes : (t : Bool) → reads false y p cs ≡ ahead x p (without_joins false cs) →
+        (((if t then Some (reader false (y, p)) else None) >>= λ q. read_cells q cs) >>= read_end) ≡ ahead x p (if t then without_joins false cs else byte 92 ∷ c ∷ without_joins false cs)
+    goes true next = next
+    goes false next = sym (no_backslash x p (c ∷ without_joins false cs))
