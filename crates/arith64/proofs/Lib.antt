@@ -5,6 +5,7 @@ pub mod Binding
 pub mod Complete
 pub mod Sound
 pub mod Words
+pub mod Ahead
 pub mod Exact
 pub mod Place
 pub mod Loop

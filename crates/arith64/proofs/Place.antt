@@ -196,22 +196,22 @@ unfolding reduce is_gap continues_name begins_name sign_of
 closing [] e gs x bare h = ([], e, ap only h)
 closing (Group ∷ fs) e gs x bare h =
     before («at» gs (Held x bare)) («at» fs (Held e false)) (byte 41)
-        (ap (λ (y : List Frame × Expr). placed (settled (end_at y Close))) h)
-        (closing fs e fs e false refl)
+    (ap (λ (y : List Frame × Expr). placed (settled (end_at y Close))) h)
+    (closing fs e fs e false refl)
 closing (Index text None ∷ fs) e gs x bare h =
     before («at» gs (Held x bare)) («at» fs (Held (expr.Member text e) true)) (byte 93)
-        (ap (λ (y : List Frame × Expr). placed (settled (end_at y EndIndex))) h)
-        (closing fs (expr.Member text e) fs (expr.Member text e) true refl)
+    (ap (λ (y : List Frame × Expr). placed (settled (end_at y EndIndex))) h)
+    (closing fs (expr.Member text e) fs (expr.Member text e) true refl)
 closing (Index text (Some op) ∷ fs) e gs x bare h =
     before («at» gs (Held x bare)) («at» fs (Held (expr.Step op (expr.Member text e)) false)) (byte 93)
-        (ap (λ (y : List Frame × Expr). placed (settled (end_at y EndIndex))) h)
-        (closing fs (expr.Step op (expr.Member text e)) fs (expr.Step op (expr.Member text e)) false refl)
+    (ap (λ (y : List Frame × Expr). placed (settled (end_at y EndIndex))) h)
+    (closing fs (expr.Step op (expr.Member text e)) fs (expr.Step op (expr.Member text e)) false refl)
 closing (Test a ∷ fs) e gs x bare h =
     before («at» gs (Held x bare)) («at» (Otherwise a e ∷ fs) Wanted) (byte 58)
-        (ap (λ (y : List Frame × Expr). placed (settled (end_at y Colon))) h)
-        (before («at» (Otherwise a e ∷ fs) Wanted) (record { joins = false; pending = Number (Decimal 1); parser = record { frames = Otherwise a e ∷ fs; slot = Wanted } }) (byte 49) refl
-        (before (record { joins = false; pending = Number (Decimal 1); parser = record { frames = Otherwise a e ∷ fs; slot = Wanted } }) («at» (Otherwise a e ∷ fs) (Held one false)) (byte 32) refl
-        (closing fs (expr.Choose a e one) (Otherwise a e ∷ fs) one false refl)))
+    (ap (λ (y : List Frame × Expr). placed (settled (end_at y Colon))) h)
+    (before («at» (Otherwise a e ∷ fs) Wanted) (record { joins = false; pending = Number (Decimal 1); parser = record { frames = Otherwise a e ∷ fs; slot = Wanted } }) (byte 49) refl
+    (before (record { joins = false; pending = Number (Decimal 1); parser = record { frames = Otherwise a e ∷ fs; slot = Wanted } }) («at» (Otherwise a e ∷ fs) (Held one false)) (byte 32) refl
+    (closing fs (expr.Choose a e one) (Otherwise a e ∷ fs) one false refl)))
 closing (Prefix op ∷ fs) e gs x bare h = closing fs (expr.Unary op e) gs x bare h
 closing (Left i a ∷ fs) e gs x bare h = closing fs (joined i a e) gs x bare (h ∙ one_more 0 (Left i a) fs e (at_most 0 (level i) (omega arith)))
 closing (Otherwise a b ∷ fs) e gs x bare h = closing fs (expr.Choose a b e) gs x bare h
@@ -279,7 +279,7 @@ after_room m (Target a op ∷ fs) e = at_test (nat_le m 1) refl (after_room m fs
 infix_shifts : (i : Infix) (fs : List Frame) (e : Expr) → left_level i ≡ level i → left_at i (reduce (left_level i) fs e) ≡ wanted (Left i (reduce (left_level i) fs e).1 ∷ (reduce (left_level i) fs e).0)
 infix_shifts i fs e same =
     ap (λ (t : Bool). if t then wanted (Left i (reduce (left_level i) fs e).1 ∷ (reduce (left_level i) fs e).0) else None)
-        (at_most (room (reduce (left_level i) fs e).0) (level i) (subst (λ (k : ℕ). room (reduce (left_level i) fs e).0 ≤ k) same (after_room (left_level i) fs e)))
+    (at_most (room (reduce (left_level i) fs e).0) (level i) (subst (λ (k : ℕ). room (reduce (left_level i) fs e).0 ≤ k) same (after_room (left_level i) fs e)))
 
 -- behind an operand, a blank ends such an operator
 infix_leads : (o : BinOp) (fs : List Frame) (e : Expr) (bare : Bool) → left_level (Plain o) ≡ level (Plain o) → longer (Between (Plain o)) 32 ≡ None → Leads (with (Operator (Between (Plain o))) fs (Held e bare))
@@ -287,19 +287,19 @@ unfolding is_gap continues_name begins_name sign_of
 infix_leads o fs e bare same ends =
     let x = reduce (left_level (Plain o)) fs e in
     before (with (Operator (Between (Plain o))) fs (Held e bare)) («at» (Left (Plain o) x.1 ∷ x.0) Wanted) (byte 32)
-        (ap (λ (t : Option Sign). placed (more_sign (record { frames = fs; slot = Held e bare }) (Between (Plain o)) t 32)) ends
-        ∙ ap (λ (q : Option Parser). placed (q >>= λ p. start p (byte 32))) (infix_shifts (Plain o) fs e same))
-        (wanted_leads (Left (Plain o) x.1 ∷ x.0))
+    (ap (λ (t : Option Sign). placed (more_sign (record { frames = fs; slot = Held e bare }) (Between (Plain o)) t 32)) ends
+    ∙ ap (λ (q : Option Parser). placed (q >>= λ p. start p (byte 32))) (infix_shifts (Plain o) fs e same))
+    (wanted_leads (Left (Plain o) x.1 ∷ x.0))
 
 -- and a `=` makes the others longer
 equal_leads : (s : Sign) (o : BinOp) (fs : List Frame) (e : Expr) (bare : Bool) → left_level (Plain o) ≡ level (Plain o) → may_grow (Between (Plain o)) ≡ false → longer s 61 ≡ Some (Between (Plain o)) → Leads (with (Operator s) fs (Held e bare))
 equal_leads s o fs e bare same final ends =
     let x = reduce (left_level (Plain o)) fs e in
     before (with (Operator s) fs (Held e bare)) («at» (Left (Plain o) x.1 ∷ x.0) Wanted) (byte 61)
-        (ap (λ (t : Option Sign). placed (more_sign (record { frames = fs; slot = Held e bare }) s t 61)) ends
-        ∙ ap (λ (t : Bool). placed (if t then Some (Operator (Between (Plain o)), record { frames = fs; slot = Held e bare }) else settled (left_at (Plain o) x))) final
-        ∙ ap (λ (q : Option Parser). placed (settled q)) (infix_shifts (Plain o) fs e same))
-        (wanted_leads (Left (Plain o) x.1 ∷ x.0))
+    (ap (λ (t : Option Sign). placed (more_sign (record { frames = fs; slot = Held e bare }) s t 61)) ends
+    ∙ ap (λ (t : Bool). placed (if t then Some (Operator (Between (Plain o)), record { frames = fs; slot = Held e bare }) else settled (left_at (Plain o) x))) final
+    ∙ ap (λ (q : Option Parser). placed (settled q)) (infix_shifts (Plain o) fs e same))
+    (wanted_leads (Left (Plain o) x.1 ∷ x.0))
 
 operator_leads : (s : Sign) (fs : List Frame) (e : Expr) (bare : Bool) → may_grow s ≡ true → Leads (with (Operator s) fs (Held e bare))
 unfolding longer

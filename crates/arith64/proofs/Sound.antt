@@ -151,8 +151,8 @@ reduced m (Left i a ∷ fs) e q r k most c low le st =
       put = ap (λ (z : List Token). onto c.form (sign (Between i) ∷ z)) st.2.put ∙ ap (onto c.form) (sym st.3) ∙ c.put;
     } in
     decided (nat_le m (level i))
-        (λ holds. rw (one_more m (Left i a) fs e holds) (reduced m fs (joined i a e) st.0 r (level i) most next (is_at_most m (level i) holds) st.4 st.5))
-        (λ fails. stays m (Left i a) fs e q r k fails c low le st)
+    (λ holds. rw (one_more m (Left i a) fs e holds) (reduced m fs (joined i a e) st.0 r (level i) most next (is_at_most m (level i) holds) st.4 st.5))
+    (λ fails. stays m (Left i a) fs e q r k fails c low le st)
 reduced m (Otherwise a b ∷ fs) e q r k most c low le st =
     let next : Came 2 (expr.Choose a b e) st.0 r = record {
       form = chosen st.3.form st.4.form c.form;
@@ -161,8 +161,8 @@ reduced m (Otherwise a b ∷ fs) e q r k most c low le st =
       put = ap (λ (z : List Token). onto c.form (sign Colon ∷ onto st.4.form (sign Question ∷ z))) st.3.put ∙ ap (λ (z : List Token). onto c.form (sign Colon ∷ z)) st.4.put ∙ ap (onto c.form) (sym st.5) ∙ c.put;
     } in
     decided (nat_le m 2)
-        (λ holds. rw (one_more m (Otherwise a b) fs e holds) (reduced m fs (expr.Choose a b e) st.0 r 2 most next (is_at_most m 2 holds) st.6 st.7))
-        (λ fails. stays m (Otherwise a b) fs e q r k fails c low le st)
+    (λ holds. rw (one_more m (Otherwise a b) fs e holds) (reduced m fs (expr.Choose a b e) st.0 r 2 most next (is_at_most m 2 holds) st.6 st.7))
+    (λ fails. stays m (Otherwise a b) fs e q r k fails c low le st)
 reduced m (Target a op ∷ fs) e q r k most c low le st =
     let next : Came 1 (expr.Assign a op e) st.0 r = record {
       form = assigned st.1 op c.form;
@@ -171,8 +171,8 @@ reduced m (Target a op ∷ fs) e q r k most c low le st =
       put = ap (onto c.form) (sym st.5) ∙ c.put;
     } in
     decided (nat_le m 1)
-        (λ holds. rw (one_more m (Target a op) fs e holds) (reduced m fs (expr.Assign a op e) st.0 r 1 most next (is_at_most m 1 holds) st.6 st.7))
-        (λ fails. stays m (Target a op) fs e q r k fails c low le st)
+    (λ holds. rw (one_more m (Target a op) fs e holds) (reduced m fs (expr.Assign a op e) st.0 r 1 most next (is_at_most m 1 holds) st.6 st.7))
+    (λ fails. stays m (Target a op) fs e q r k fails c low le st)
 
 -- ---- where reading is, and the tokens that were read
 
@@ -237,8 +237,8 @@ variable_goes fs op (sign s) r st = tt
 left_goes : (i : Infix) (x : List Frame × Expr) (r : List Token) → Stood (left_level i) x r → Goes (left_at i x) (sign (Between i) ∷ r)
 left_goes i x r st =
     decided (nat_le (room x.0) (level i))
-        (λ holds. rw holds (st.q, r, came_looser (left_level i) st.k x.1 st.q r st.low st.came, refl, is_at_most (room x.0) (level i) holds, st.stands))
-        (λ fails. rw fails tt)
+    (λ holds. rw holds (st.q, r, came_looser (left_level i) st.k x.1 st.q r st.low st.came, refl, is_at_most (room x.0) (level i) holds, st.stands))
+    (λ fails. rw fails tt)
 
 is_more : (m k : ℕ) → nat_le m k ≡ false → k < m
 is_more m k e = grind (arith, nat_tests)
@@ -258,8 +258,8 @@ after_three (Test a ∷ fs) e = omega arith
 after_three (Prefix op ∷ fs) e = after_three fs (expr.Unary op e)
 after_three (Left i a ∷ fs) e =
     decided (nat_le 3 (level i))
-        (λ holds. rw holds (after_three fs (joined i a e)))
-        (λ fails. rw fails (loosest (level i) (left_level i) (is_level i) fails))
+    (λ holds. rw holds (after_three fs (joined i a e)))
+    (λ fails. rw fails (loosest (level i) (left_level i) (is_level i) fails))
 after_three (Otherwise a b ∷ fs) e = omega arith
 after_three (Target a op ∷ fs) e = omega arith
 
@@ -280,14 +280,17 @@ close_goes (f ∷ fs) e r st = tt
 member_goes : (fs : List Frame) (text : List ℕ) (step : Option StepOp) (e : Expr) (q r : List Token) (k : ℕ) → Came k e q r → Stands (Index text step ∷ fs) q → Goes (member_at fs text step e) (sign EndIndex ∷ r)
 member_goes fs text None e q r k c s =
     (s.0, record { form = member text c.form; fits = looser c.form 0 k (omega arith) c.fits; is = ap (expr.Member text) c.is; put = ap (λ (z : List Token). sign EndIndex ∷ onto c.form z) (sym s.1) ∙ ap (λ (z : List Token). sign EndIndex ∷ z) c.put; may = λ e. refl }, s.2)
-member_goes fs text (Some op) e q r k c s =
-    (s.0, record {
-      form = stepped op (member text c.form);
-      fits = (refl, looser c.form 0 k (omega arith) c.fits);
-      is = ap (λ (x : Expr). expr.Step op (expr.Member text x)) c.is;
-      put = s.2 (sign EndIndex ∷ onto c.form (indexed text ∷ before_target op s.0)) ∙ ap (λ (z : List Token). sign EndIndex ∷ onto c.form z) (sym s.1) ∙ ap (λ (z : List Token). sign EndIndex ∷ z) c.put;
-      may = never;
-    }, s.3)
+member_goes fs text (Some op) e q r k c s = (
+  s.0,
+  record {
+    form = stepped op (member text c.form);
+    fits = (refl, looser c.form 0 k (omega arith) c.fits);
+    is = ap (λ (x : Expr). expr.Step op (expr.Member text x)) c.is;
+    put = s.2 (sign EndIndex ∷ onto c.form (indexed text ∷ before_target op s.0)) ∙ ap (λ (z : List Token). sign EndIndex ∷ onto c.form z) (sym s.1) ∙ ap (λ (z : List Token). sign EndIndex ∷ z) c.put;
+    may = never;
+  },
+  s.3,
+)
 
 end_index_goes : (fs : List Frame) (e : Expr) (r : List Token) → Stood 0 (fs, e) r → Goes (end_index_at fs e) (sign EndIndex ∷ r)
 end_index_goes [] e r st = tt
@@ -297,14 +300,17 @@ end_index_goes (f ∷ fs) e r st = tt
 step_goes : (fs : List Frame) (op : StepOp) (s : Sign) (e : Expr) (bare : Bool) (r : List Token) → ((ts : List Token) → before_target op ts ≡ ts) → ((ts : List Token) → behind_target op ts ≡ sign s ∷ ts) → Kept fs (Held e bare) r →
     Goes (if bare then Some (record { frames = fs; slot = Held (expr.Step op e) false }) else None) (sign s ∷ r)
 step_goes fs op s e true r before behind h =
-    let x = h.1 in
-    (h.0, record {
-      form = stepped op x.form;
-      fits = (x.may refl, looser x.form 0 15 (omega arith) x.fits);
-      is = ap (expr.Step op) x.is;
-      put = ap (λ (z : List Token). behind_target op (onto x.form z)) (before h.0) ∙ ap (behind_target op) x.put ∙ behind r;
-      may = never;
-    }, h.2)
+    let x = h.1 in (
+      h.0,
+      record {
+        form = stepped op x.form;
+        fits = (x.may refl, looser x.form 0 15 (omega arith) x.fits);
+        is = ap (expr.Step op) x.is;
+        put = ap (λ (z : List Token). behind_target op (onto x.form z)) (before h.0) ∙ ap (behind_target op) x.put ∙ behind r;
+        may = never;
+      },
+      h.2,
+    )
 step_goes fs op s e false r before behind h = tt
 
 assign_goes : (fs : List Frame) (o : Option BinOp) (e : Expr) (bare : Bool) (r : List Token) → Kept fs (Held e bare) r → Goes (sign_at fs e bare (Assign o)) (sign (Assign o) ∷ r)
@@ -312,8 +318,8 @@ assign_goes fs o e false r h = tt
 assign_goes fs o e true r h =
     let x = h.1 in
     decided (nat_le (room fs) 1)
-        (λ holds. rw holds (h.0, x.form, x.may refl, looser x.form 0 15 (omega arith) x.fits, x.is, ap (λ (z : List Token). sign (Assign o) ∷ z) (sym x.put), is_at_most (room fs) 1 holds, h.2))
-        (λ fails. rw fails tt)
+    (λ holds. rw holds (h.0, x.form, x.may refl, looser x.form 0 15 (omega arith) x.fits, x.is, ap (λ (z : List Token). sign (Assign o) ∷ z) (sym x.put), is_at_most (room fs) 1 holds, h.2))
+    (λ fails. rw fails tt)
 
 test_goes : (x : List Frame × Expr) (r : List Token) → room x.0 ≤ 2 → Stood 3 x r → Goes (test_at x) (sign Question ∷ r)
 test_goes x r le st = (st.q, r, came_looser 3 st.k x.1 st.q r st.low st.came, refl, le, st.stands)

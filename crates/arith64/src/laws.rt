@@ -8,5 +8,4 @@ ghost use Rattle.span_text.specs.Expressions.{Spells};
 /// A text spells at most one expression.
 pub fn one_expression()
     ensures { (cells : List Cell) (a b : Expr) → Spells cells a → Spells cells b → a ≡ b }
-{
-}
+{}

@@ -149,7 +149,12 @@ fn room(frames: &Frames) -> u32
     }
 }
 
-fn take_infix(alloc: Global, frames: Frames, operand: Boxed<Expr>, op: Infix) -> Result<Parser, Stop>
+fn take_infix(
+    alloc: Global,
+    frames: Frames,
+    operand: Boxed<Expr>,
+    op: Infix,
+) -> Result<Parser, Stop>
     ensures { Gives result (parsing.left_at op (parsing.reduce (spelling.left_level op) frames operand)) }
 {
     let (frames, operand) = reduce(alloc, left_level(op), frames, operand)?;
@@ -160,7 +165,12 @@ fn take_infix(alloc: Global, frames: Frames, operand: Boxed<Expr>, op: Infix) ->
     }
 }
 
-fn take_assignment(frames: Frames, operand: Boxed<Expr>, is_bare: bool, op: Option<BinOp>) -> Result<Parser, Stop>
+fn take_assignment(
+    frames: Frames,
+    operand: Boxed<Expr>,
+    is_bare: bool,
+    op: Option<BinOp>,
+) -> Result<Parser, Stop>
     ensures { Gives result (parsing.sign_at frames operand is_bare (sign.Assign op)) }
 {
     if is_bare && room(&frames) <= ASSIGNMENT {
@@ -170,7 +180,13 @@ fn take_assignment(frames: Frames, operand: Boxed<Expr>, is_bare: bool, op: Opti
     }
 }
 
-fn take_step(alloc: Global, frames: Frames, operand: Boxed<Expr>, is_bare: bool, op: StepOp) -> Result<Parser, Stop>
+fn take_step(
+    alloc: Global,
+    frames: Frames,
+    operand: Boxed<Expr>,
+    is_bare: bool,
+    op: StepOp,
+) -> Result<Parser, Stop>
     ensures { Gives result (if is_bare then parsing.held frames (expr.Step op operand) false else None) }
 {
     if is_bare {
@@ -207,7 +223,13 @@ fn close(frames: Frames, operand: Boxed<Expr>) -> Result<Parser, Stop>
     }
 }
 
-fn member(alloc: Global, frames: Frames, name: Text, step: Option<StepOp>, index: Boxed<Expr>) -> Result<Parser, Stop>
+fn member(
+    alloc: Global,
+    frames: Frames,
+    name: Text,
+    step: Option<StepOp>,
+    index: Boxed<Expr>,
+) -> Result<Parser, Stop>
     ensures { Gives result (parsing.member_at frames name step index) }
 {
     let member = Boxed::new(alloc, Expr::Member(name, index))?;

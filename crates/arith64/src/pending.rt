@@ -137,7 +137,12 @@ fn longer_plain(op: BinOp, byte: u8) -> Option<Sign>
     match op {
         BinOp::Add => on(byte, b'+', Sign::Increment, assigned),
         BinOp::Subtract => on(byte, b'-', Sign::Decrement, assigned),
-        BinOp::Times => on(byte, b'*', Sign::Between(Infix::Plain(BinOp::Power)), assigned),
+        BinOp::Times => on(
+            byte,
+            b'*',
+            Sign::Between(Infix::Plain(BinOp::Power)),
+            assigned,
+        ),
         BinOp::Less => on(
             byte,
             b'<',
@@ -152,16 +157,10 @@ fn longer_plain(op: BinOp, byte: u8) -> Option<Sign>
         ),
         BinOp::BitAnd => on(byte, b'&', Sign::Between(Infix::And), assigned),
         BinOp::BitOr => on(byte, b'|', Sign::Between(Infix::Or), assigned),
-        BinOp::Divide
-        | BinOp::Remainder
-        | BinOp::ShiftLeft
-        | BinOp::ShiftRight
-        | BinOp::BitXor => assigned,
-        BinOp::Power
-        | BinOp::AtMost
-        | BinOp::AtLeast
-        | BinOp::Equal
-        | BinOp::Unequal => None,
+        BinOp::ShiftLeft | BinOp::ShiftRight => assigned,
+        BinOp::Divide | BinOp::Remainder | BinOp::BitXor => assigned,
+        BinOp::Power | BinOp::AtMost | BinOp::AtLeast => None,
+        BinOp::Equal | BinOp::Unequal => None,
     }
 }
 

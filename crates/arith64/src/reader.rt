@@ -10,7 +10,9 @@ ghost use Rattle.arith64.specs.declared.pending.Pending.TheVariants as pending;
 use crate::fault::Stop;
 use crate::frames::{Frames, Parser, Slot};
 use crate::parser::{accept, take_indexed, take_name, take_number, take_operand, take_sign};
-use crate::pending::{Digits, Pending, first_digit, longer, may_grow, next_digit, sign_of, value_of_digits};
+use crate::pending::{
+    Digits, Pending, first_digit, longer, may_grow, next_digit, sign_of, value_of_digits,
+};
 use span_text::{BinOp, Class, Expr, Infix, Sign, Text, is_in};
 use std::alloc::Global;
 
@@ -163,7 +165,12 @@ fn finish(alloc: Global, parser: Parser, pending: Pending) -> Result<Parser, Sto
     }
 }
 
-fn flush(alloc: Global, parser: Parser, pending: Pending, byte: u8) -> Result<(Pending, Parser), Stop>
+fn flush(
+    alloc: Global,
+    parser: Parser,
+    pending: Pending,
+    byte: u8,
+) -> Result<(Pending, Parser), Stop>
     ensures { Gives result (reading.flush parser pending (cells.byte byte)) }
 {
     let parser = finish(alloc, parser, pending)?;
@@ -190,7 +197,12 @@ fn more_name(alloc: Global, parser: Parser, name: Text, byte: u8) -> Result<(Pen
     flush(alloc, parser, Pending::Name(name), byte)
 }
 
-fn more_number(alloc: Global, parser: Parser, digits: Digits, byte: u8) -> Result<(Pending, Parser), Stop>
+fn more_number(
+    alloc: Global,
+    parser: Parser,
+    digits: Digits,
+    byte: u8,
+) -> Result<(Pending, Parser), Stop>
     ensures { Gives result (reading.more_number parser digits byte) }
 {
     if !is_in(Class::NameRest, byte) {
@@ -211,7 +223,12 @@ fn more_sign(alloc: Global, parser: Parser, sign: Sign, byte: u8) -> Result<(Pen
     }
 }
 
-fn step(alloc: Global, parser: Parser, pending: Pending, byte: u8) -> Result<(Pending, Parser), Stop>
+fn step(
+    alloc: Global,
+    parser: Parser,
+    pending: Pending,
+    byte: u8,
+) -> Result<(Pending, Parser), Stop>
     ensures { Gives result (reading.step parser pending (cells.byte byte)) }
 {
     match pending {
@@ -229,7 +246,11 @@ fn joined(reader: Reader, byte: u8) -> Result<Reader, Stop>
     if byte != b'\n' {
         return Err(Stop::Bad);
     }
-    let Reader { pending, parser, .. } = reader;
+    let Reader {
+        pending,
+        parser,
+        ..
+    } = reader;
     Ok(Reader {
         joins: false,
         pending,
@@ -244,7 +265,11 @@ pub(crate) fn read_byte(alloc: Global, reader: Reader, byte: u8) -> Result<Reade
     if reader.joins {
         return joined(reader, byte);
     }
-    let Reader { pending, parser, .. } = reader;
+    let Reader {
+        pending,
+        parser,
+        ..
+    } = reader;
     if byte == b'\\' {
         return Ok(Reader {
             joins: true,
