@@ -1,5 +1,5 @@
 -- What is written is read.
-use Rattle.std.proofs.Common.{◌≡◌, ℕ, suc, ◌+◌, ◌<◌, ◌≤◌, Bool, true, false, List, [], ◌∷◌, Option, Some, None, refl, sym, ap, subst, ◌∙◌, nat_le, arith, pos}
+use Rattle.std.proofs.Common.{◌≡◌, ℕ, ◌+◌, ◌≤◌, Bool, true, false, List, [], ◌∷◌, Option, Some, None, refl, sym, ap, ◌∙◌, arith}
 use Rattle.std.specs.Prelude.{if◌then◌else◌}
 use Rattle.span_text.specs.declared.expr.UnOp.{UnOp}
 use Rattle.span_text.specs.declared.expr.UnOp.TheVariants as unary
@@ -9,16 +9,16 @@ use Rattle.span_text.specs.declared.expr.StepOp.TheVariants.{PreAdd, PreSub, Pos
 use Rattle.span_text.specs.declared.expr.Expr.{Expr}
 use Rattle.span_text.specs.declared.expr.Expr.TheVariants as expr
 use Rattle.span_text.specs.declared.sign.Infix.{Infix}
-use Rattle.span_text.specs.declared.sign.Sign.TheVariants.{Between, Assign, Increment, Decrement, Question, Colon, Open, Close, EndIndex}
-use Rattle.span_text.specs.ExprTokens.{Cell, Token, number, name, indexed, operand, sign}
-use Rattle.span_text.specs.Expressions.{Form, literal, expanded, variable, member, group, prefixed, stepped, between, chosen, assigned, joined, tree, prefix, written, before_target, behind_target, level, left_level, is_bare, Fits, Spells}
+use Rattle.span_text.specs.declared.sign.Sign.TheVariants.{Between, Assign, Increment, Decrement, Question, Colon, Close, EndIndex}
+use Rattle.span_text.specs.ExprTokens.{Cell, Token, sign}
+use Rattle.span_text.specs.Expressions.{Form, literal, expanded, variable, member, group, prefixed, stepped, between, chosen, assigned, tree, prefix, written, before_target, behind_target, level, left_level, is_bare, Fits, Spells}
 use Rattle.arith64.specs.declared.frames.Frame.{Frame}
 use Rattle.arith64.specs.declared.frames.Frame.TheVariants.{Group, Index, Prefix, Left, Test, Otherwise, Target}
 use Rattle.arith64.specs.declared.frames.Slot.{Slot}
 use Rattle.arith64.specs.declared.frames.Slot.TheVariants.{Wanted, Stepping, Held}
 use Rattle.arith64.specs.declared.frames.Parser.{Parser}
-use Rattle.arith64.specs.Parsing.{◌>>=◌, reduce, room, wanted, prefix_at, left_at, test_at, end_at, shift, run, only, accept, nothing_read}
-use Rattle.arith64.proofs.Binding.{one_more, no_more, Level, is_level, stays, stays_three, at_most}
+use Rattle.arith64.specs.Parsing.{◌>>=◌, reduce, room, wanted, prefix_at, left_at, test_at, end_at, run, only, accept, nothing_read}
+use Rattle.arith64.proofs.Binding.{one_more, no_more, is_level, stays, stays_three, at_most}
 
 abbrev pub «at» : List Frame → Slot → Parser
 «at» fs slot = record { frames = fs; slot = slot }

@@ -1,28 +1,22 @@
 -- Reading cells one by one is reading their tokens.
-use Rattle.std.proofs.Common.{◌≡◌, ℕ, Bool, true, false, List, [], ◌∷◌, ◌++◌, Option, Some, None, refl, sym, ap, subst, ◌∙◌, eqb, cond, nat_le, append_assoc}
-use Rattle.std.specs.Prelude.{◌==◌, if◌then◌else◌, ◌&&◌, ◌||◌}
+use Rattle.std.proofs.Common.{◌≡◌, ℕ, Bool, true, false, List, [], ◌∷◌, ◌++◌, Option, Some, None, refl, sym, ap, ◌∙◌}
+use Rattle.std.specs.Prelude.{◌==◌, if◌then◌else◌, ◌&&◌}
 use Rattle.std.proofs.Math.Path.{fun_ext}
 use Rattle.std.proofs.lemmas.List.{append-nil}
-use Rattle.std.proofs.lemmas.Bool.{eqb-true}
 use Rattle.span_text.specs.declared.expr.BinOp.TheVariants as op
 use Rattle.span_text.specs.declared.expr.Expr.{Expr}
 use Rattle.span_text.specs.declared.sign.Infix.TheVariants.{Plain, And, Or, Comma}
 use Rattle.span_text.specs.declared.sign.Sign.{Sign}
 use Rattle.span_text.specs.declared.sign.Sign.TheVariants.{Between, Assign, Not, Complement, Increment, Decrement, Question, Colon, Open, Close, EndIndex}
 use Rattle.span_text.specs.Constant.{unsigned_constant}
-use Rattle.span_text.specs.Names as names
 use Rattle.span_text.specs.Names.{is_name, begins_name, continues_name}
 use Rattle.span_text.specs.ExprTokens.{Cell, byte, expansion, is_byte, without_joins, Token, number, name, indexed, operand, sign, sign_of, longer, Begun, gap, word, operator, whole, operator_if, is_gap, begun, grown, greatest, number_if, finished, ◌then◌, if_begun, tokens}
-use Rattle.arith64.specs.declared.frames.Frame.{Frame}
-use Rattle.arith64.specs.declared.frames.Slot.{Slot}
-use Rattle.arith64.specs.declared.frames.Slot.TheVariants.{Wanted, Stepping, Held}
 use Rattle.arith64.specs.declared.frames.Parser.{Parser}
 use Rattle.arith64.specs.declared.pending.Digits.{Digits}
 use Rattle.arith64.specs.declared.pending.Pending.{Pending}
 use Rattle.arith64.specs.declared.pending.Pending.TheVariants.{Gap, Name, Number, Operator}
-use Rattle.arith64.specs.declared.reader.Reader.{Reader}
-use Rattle.arith64.specs.Parsing.{◌>>=◌, prefix_at, shift, shift_at, run, accept, parsed, nothing_read}
-use Rattle.arith64.specs.Reader.{first_digit, next_digit, value_of_digits, may_grow, is_prefix, opens, wants_operand, wants_variable, settled, enter_word, enter_sign, enter_sign_if, start, number_at, finish, flush, as_number, more_name, more_number, more_sign, step, reader, placed, read_cell, read_cells, read_end, at_start}
+use Rattle.arith64.specs.Parsing.{◌>>=◌, shift, run, accept}
+use Rattle.arith64.specs.Reader.{first_digit, next_digit, value_of_digits, may_grow, opens, wants_operand, wants_variable, settled, enter_word, enter_sign, enter_sign_if, start, number_at, finish, flush, as_number, more_name, more_number, more_sign, step, reader, placed, read_cells, read_end}
 use Rattle.arith64.proofs.Words.{is_digit_else, name_more, IsNumber, number_first, number_more, number_none, Small, SmallDigits, next_small, first_small}
 use Rattle.arith64.proofs.Ahead.{bind_none, bind_some, ends, ahead, whole_ahead, gap_ahead, over_ahead, final_ahead, closed_sign, grown_word, dead_word, number_none_at, closed_words, closed_number, unnamed, no_name}
 

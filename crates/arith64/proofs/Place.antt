@@ -1,20 +1,19 @@
 -- Where reading can go on.
-use Rattle.std.proofs.Common.{◌≡◌, ℕ, Bool, true, false, List, [], ◌∷◌, ◌++◌, Option, Some, None, refl, sym, ap, subst, ◌∙◌, eqb, cond, nat_le, append_assoc, pos, ◌+◌, ◌<◌, ◌≤◌, arith}
+use Rattle.std.proofs.Common.{◌≡◌, ℕ, Bool, true, false, List, [], ◌∷◌, ◌++◌, Option, Some, None, refl, sym, ap, subst, ◌∙◌, nat_le, pos, ◌<◌, ◌≤◌, arith}
 use Rattle.std.proofs.lemmas.Bool.Decides.{nat_tests}
-use Rattle.std.specs.Prelude.{◌==◌, if◌then◌else◌, ◌&&◌, ◌||◌}
+use Rattle.std.specs.Prelude.{◌==◌, if◌then◌else◌}
 use Rattle.span_text.specs.declared.expr.UnOp.TheVariants as unary
 use Rattle.span_text.specs.declared.expr.BinOp.{BinOp}
 use Rattle.span_text.specs.declared.expr.BinOp.TheVariants as op
-use Rattle.span_text.specs.declared.expr.StepOp.{StepOp}
 use Rattle.span_text.specs.declared.expr.Expr.{Expr}
 use Rattle.span_text.specs.declared.expr.Expr.TheVariants as expr
 use Rattle.span_text.specs.declared.sign.Infix.{Infix}
 use Rattle.span_text.specs.declared.sign.Infix.TheVariants.{Plain, And, Or, Comma}
 use Rattle.span_text.specs.declared.sign.Sign.{Sign}
 use Rattle.span_text.specs.declared.sign.Sign.TheVariants.{Between, Assign, Not, Complement, Increment, Decrement, Question, Colon, Open, Close, EndIndex}
-use Rattle.span_text.specs.Names.{is_name, begins_name, continues_name}
-use Rattle.span_text.specs.ExprTokens.{Cell, byte, expansion, is_byte, without_joins, Token, number, name, indexed, operand, sign, sign_of, longer, gap, tokens, greatest, is_gap}
-use Rattle.span_text.specs.Expressions.{Form, Spells, written, joined, level, left_level}
+use Rattle.span_text.specs.Names.{begins_name, continues_name}
+use Rattle.span_text.specs.ExprTokens.{Cell, byte, expansion, is_byte, without_joins, Token, number, indexed, operand, sign, sign_of, longer, gap, tokens, greatest, is_gap}
+use Rattle.span_text.specs.Expressions.{Spells, joined, level, left_level}
 use Rattle.arith64.specs.declared.frames.Frame.{Frame}
 use Rattle.arith64.specs.declared.frames.Frame.TheVariants.{Group, Index, Prefix, Left, Test, Otherwise, Target}
 use Rattle.arith64.specs.declared.frames.Slot.{Slot}
@@ -25,8 +24,8 @@ use Rattle.arith64.specs.declared.pending.Digits.TheVariants.{Zero, Octal, Decim
 use Rattle.arith64.specs.declared.pending.Pending.{Pending}
 use Rattle.arith64.specs.declared.pending.Pending.TheVariants.{Gap, Name, Number, Operator}
 use Rattle.arith64.specs.declared.reader.Reader.{Reader}
-use Rattle.arith64.specs.Parsing.{◌>>=◌, reduce, room, binds, built, prefix_at, left_at, wanted, end_at, shift, run, accept, parsed, nothing_read, only}
-use Rattle.arith64.specs.Reader.{first_digit, next_digit, value_of_digits, may_grow, is_prefix, opens, wants_operand, wants_variable, settled, enter_word, enter_sign, enter_sign_if, start, number_at, finish, flush, as_number, more_name, more_number, more_sign, step, reader, placed, read_cell, read_cells, read_end, at_start}
+use Rattle.arith64.specs.Parsing.{◌>>=◌, reduce, room, left_at, wanted, end_at, shift, parsed, nothing_read, only}
+use Rattle.arith64.specs.Reader.{first_digit, next_digit, value_of_digits, may_grow, is_prefix, opens, wants_operand, wants_variable, settled, enter_word, enter_sign, enter_sign_if, start, number_at, finish, flush, as_number, more_sign, step, reader, placed, read_cell, read_cells, read_end, at_start}
 use Rattle.arith64.proofs.Binding.{one_more, at_most}
 use Rattle.arith64.proofs.Words.{Small, SmallDigits, next_small, first_small, is_digit_else}
 use Rattle.arith64.proofs.Complete.{reads}

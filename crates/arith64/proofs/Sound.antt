@@ -1,9 +1,7 @@
 -- What is read is written so.
-use Rattle.std.proofs.Common.{◌≡◌, ℕ, suc, ◌+◌, ◌<◌, ◌≤◌, Bool, true, false, List, [], ◌∷◌, Option, Some, None, refl, sym, ap, subst, ◌∙◌, nat_le, arith, pos}
-use Rattle.std.specs.Prelude.{if◌then◌else◌, ◌&&◌}
+use Rattle.std.proofs.Common.{◌≡◌, ℕ, ◌+◌, ◌<◌, ◌≤◌, Bool, true, false, List, [], ◌∷◌, Option, Some, None, refl, sym, ap, subst, ◌∙◌, nat_le, arith}
+use Rattle.std.specs.Prelude.{if◌then◌else◌}
 use Rattle.std.proofs.lemmas.Bool.Decides.{nat_tests}
-use Rattle.span_text.specs.declared.expr.UnOp.{UnOp}
-use Rattle.span_text.specs.declared.expr.UnOp.TheVariants as unary
 use Rattle.span_text.specs.declared.expr.BinOp.{BinOp}
 use Rattle.span_text.specs.declared.expr.BinOp.TheVariants as op
 use Rattle.span_text.specs.declared.expr.StepOp.{StepOp}
@@ -21,7 +19,7 @@ use Rattle.arith64.specs.declared.frames.Frame.TheVariants.{Group, Index, Prefix
 use Rattle.arith64.specs.declared.frames.Slot.{Slot}
 use Rattle.arith64.specs.declared.frames.Slot.TheVariants.{Wanted, Stepping, Held}
 use Rattle.arith64.specs.declared.frames.Parser.{Parser}
-use Rattle.arith64.specs.Parsing.{◌>>=◌, reduce, binds, built, room, asked, wanted, prefix_at, operand_at, variable_at, left_at, test_at, otherwise_at, close_at, member_at, end_index_at, end_at, sign_at, behind_at, shift_at, shift, run, only, accept_at, accept, nothing_read}
+use Rattle.arith64.specs.Parsing.{◌>>=◌, reduce, binds, room, asked, prefix_at, operand_at, variable_at, left_at, test_at, otherwise_at, close_at, member_at, end_index_at, sign_at, behind_at, shift_at, shift, run, only, accept_at, accept, nothing_read}
 use Rattle.arith64.proofs.Binding.{one_more, no_more, Level, is_level}
 
 -- ---- tokens that were read, the last first

@@ -1,11 +1,11 @@
 -- Words, which are names or constants.
-use Rattle.std.proofs.Common.{◌≡◌, ℕ, suc, ◌+◌, ◌-◌, ◌*◌, ◌<◌, ◌≤◌, Bool, true, false, List, [], ◌∷◌, ◌++◌, length, drop, Option, Some, None, refl, sym, ap, subst, ◌∙◌, eqb, cond, nat_le, nat_lt, arith, append_assoc}
-use Rattle.std.specs.Prelude.{◌==◌, if◌then◌else◌, ◌&&◌, ◌||◌, slice_index, ◌^◌}
+use Rattle.std.proofs.Common.{◌≡◌, ℕ, ◌+◌, ◌-◌, ◌*◌, ◌<◌, ◌≤◌, Bool, true, false, List, [], ◌∷◌, ◌++◌, drop, Option, Some, None, refl, sym, ap, subst, ◌∙◌, nat_le, nat_lt, arith, append_assoc}
+use Rattle.std.specs.Prelude.{◌==◌, if◌then◌else◌, ◌&&◌, ◌||◌, slice_index}
 use Rattle.std.specs.List.{list_all}
 use Rattle.std.specs.Char.{digit_value, is_digit}
 use Rattle.std.proofs.lemmas.Bool.{eqb-true}
 use Rattle.std.proofs.lemmas.Bool.Decides.{nat_tests}
-use Rattle.span_text.specs.Constant.{number_of, unsigned_constant, is_hexadecimal, radix_of, digits_of}
+use Rattle.span_text.specs.Constant.{number_of, unsigned_constant}
 use Rattle.span_text.specs.Names as names
 use Rattle.span_text.specs.Names.{is_name, begins_name, continues_name}
 use Rattle.span_text.specs.ExprTokens.{greatest}

@@ -1,7 +1,6 @@
 -- Reading the tokens of an expression from left to right, with a stack of what stands open.
 use Rattle.std.specs.Prelude.{◌≡◌, ℕ, ◌+◌, Bool, true, false, ◌&&◌, nat_le, List, [], ◌∷◌, Option, Some, None, Result, Ok, Err, pos, if◌then◌else◌}
 use Rattle.span_text.specs.declared.expr.UnOp.TheVariants as unary
-use Rattle.span_text.specs.declared.expr.BinOp.{BinOp}
 use Rattle.span_text.specs.declared.expr.BinOp.TheVariants.{Add, Subtract}
 use Rattle.span_text.specs.declared.expr.StepOp.{StepOp}
 use Rattle.span_text.specs.declared.expr.StepOp.TheVariants.{PreAdd, PreSub, PostAdd, PostSub}

@@ -1,6 +1,6 @@
 -- Reading the cells of an expression from left to right.
-use Rattle.std.specs.Prelude.{◌≡◌, ℕ, ◌+◌, ◌-◌, Bool, true, false, ◌&&◌, ◌||◌, ◌==◌, nat_le, List, [], ◌∷◌, ◌++◌, Option, Some, None, if◌then◌else◌}
-use Rattle.span_text.specs.declared.expr.BinOp.TheVariants.{Power, Times, Divide, Remainder, Add, Subtract, ShiftLeft, ShiftRight, Less, AtMost, Greater, AtLeast, Equal, Unequal, BitAnd, BitXor, BitOr}
+use Rattle.std.specs.Prelude.{ℕ, ◌-◌, Bool, true, false, ◌||◌, ◌==◌, nat_le, List, [], ◌∷◌, ◌++◌, Option, Some, None, if◌then◌else◌}
+use Rattle.span_text.specs.declared.expr.BinOp.TheVariants.{Times, Divide, Remainder, Add, Subtract, ShiftLeft, ShiftRight, Less, Greater, BitAnd, BitXor, BitOr}
 use Rattle.span_text.specs.declared.expr.Expr.{Expr}
 use Rattle.span_text.specs.declared.sign.Infix.TheVariants.{Plain}
 use Rattle.span_text.specs.declared.sign.Sign.{Sign}

@@ -17,6 +17,7 @@ use crate::reducing::reduce;
 use span_text::{BinOp, Boxed, Expr, Infix, Sign, StepOp, Text, UnOp};
 use std::alloc::Global;
 
+/// One frame more, behind which an operand has to come.
 fn wanted(frames: Frames, frame: Frame) -> Result<Parser, Stop>
     ensures { Gives result (parsing.wanted (frame ∷ frames)) }
 {
@@ -53,6 +54,7 @@ fn simple(alloc: Global, frames: Frames, operand: Expr, is_bare: bool) -> Result
     Ok(held(frames, Boxed::new(alloc, operand)?, is_bare))
 }
 
+/// A variable with its `++` or `--`.
 fn stepped(alloc: Global, frames: Frames, op: StepOp, target: Boxed<Expr>) -> Result<Parser, Stop>
     ensures { Gives result (parsing.held frames (expr.Step op target) false) }
 {
@@ -80,6 +82,7 @@ pub(crate) fn take_number(alloc: Global, parser: Parser, value: u64) -> Result<P
     }
 }
 
+/// An expansion, by its number.
 pub(crate) fn take_operand(alloc: Global, parser: Parser, number: u32) -> Result<Parser, Stop>
     ensures { Gives result (shift parser (token.operand number)) }
 {
@@ -90,6 +93,7 @@ pub(crate) fn take_operand(alloc: Global, parser: Parser, number: u32) -> Result
     }
 }
 
+/// A name without an index.
 pub(crate) fn take_name(alloc: Global, parser: Parser, name: Text) -> Result<Parser, Stop>
     ensures { Gives result (shift parser (token.name name)) }
 {
@@ -101,6 +105,7 @@ pub(crate) fn take_name(alloc: Global, parser: Parser, name: Text) -> Result<Par
     }
 }
 
+/// A name and the `[` right behind it.
 pub(crate) fn take_indexed(parser: Parser, name: Text) -> Result<Parser, Stop>
     ensures { Gives result (shift parser (token.indexed name)) }
 {
@@ -112,6 +117,7 @@ pub(crate) fn take_indexed(parser: Parser, name: Text) -> Result<Parser, Stop>
     }
 }
 
+/// A sign where an operand has to come.
 fn prefix_sign(frames: Frames, sign: Sign) -> Result<Parser, Stop>
     ensures { Gives result (parsing.prefix_at frames sign) }
 {
@@ -149,6 +155,7 @@ fn room(frames: &Frames) -> u32
     }
 }
 
+/// An operator between operands. `**` stands in no chain: behind `a ** b` there is no room for it.
 fn take_infix(
     alloc: Global,
     frames: Frames,
@@ -180,6 +187,7 @@ fn take_assignment(
     }
 }
 
+/// A `++` or `--` behind an operand.
 fn take_step(
     alloc: Global,
     frames: Frames,
@@ -262,6 +270,7 @@ fn take_end(alloc: Global, frames: Frames, operand: Boxed<Expr>, sign: Sign) -> 
     }
 }
 
+/// A sign behind an operand.
 fn sign_behind(
     alloc: Global,
     frames: Frames,
@@ -282,6 +291,7 @@ fn sign_behind(
     }
 }
 
+/// An operator or a bracket.
 pub(crate) fn take_sign(alloc: Global, parser: Parser, sign: Sign) -> Result<Parser, Stop>
     ensures { Gives result (shift parser (token.sign sign)) }
 {

@@ -104,6 +104,7 @@ fn enter_number(parser: Parser, byte: u8) -> Result<(Pending, Parser), Stop>
     }
 }
 
+/// The first byte of a name or a constant.
 fn enter_word(alloc: Global, parser: Parser, byte: u8) -> Result<(Pending, Parser), Stop>
     requires { names.continues_name byte ≡ true }
     ensures { Gives result (reading.enter_word parser byte) }
@@ -115,6 +116,7 @@ fn enter_word(alloc: Global, parser: Parser, byte: u8) -> Result<(Pending, Parse
     }
 }
 
+/// A sign that came; it waits, where one byte more may make it longer.
 fn enter_sign(alloc: Global, parser: Parser, sign: Sign) -> Result<(Pending, Parser), Stop>
     ensures { Gives result (reading.enter_sign parser sign) }
 {
@@ -165,6 +167,7 @@ fn finish(alloc: Global, parser: Parser, pending: Pending) -> Result<Parser, Sto
     }
 }
 
+/// A byte behind what was begun, which it doesn't make longer.
 fn flush(
     alloc: Global,
     parser: Parser,
@@ -223,6 +226,7 @@ fn more_sign(alloc: Global, parser: Parser, sign: Sign, byte: u8) -> Result<(Pen
     }
 }
 
+/// A byte that is part of no join.
 fn step(
     alloc: Global,
     parser: Parser,
@@ -239,6 +243,7 @@ fn step(
     }
 }
 
+/// The byte behind a backslash.
 fn joined(reader: Reader, byte: u8) -> Result<Reader, Stop>
     requires { reader.joins ≡ true }
     ensures { Gives result (reading.read_cell reader (cells.byte byte)) }

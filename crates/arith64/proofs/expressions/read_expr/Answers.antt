@@ -1,4 +1,4 @@
-use Rattle.std.proofs.Common.{◌≡◌, ℕ, List, length, ◌≤◌, arith, subst}
+use Rattle.std.proofs.Common.{◌≡◌, ℕ, List, length, arith, subst}
 use Rattle.span_text.specs.declared.span.Span.{Span}
 use Rattle.arith64.specs.declared.reader.Reader.{Reader}
 use Rattle.arith64.proofs.Loop.{Kept, goes_next, stopped, stopped_at_end, if_none, if_place, good_end}

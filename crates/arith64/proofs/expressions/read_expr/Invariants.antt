@@ -1,4 +1,3 @@
-use Rattle.std.proofs.Common.{length}
 use Rattle.arith64.proofs.Loop.{Kept}
 use Rattle.arith64.proofs.expressions.read_expr.Given as goal
 

@@ -1,4 +1,4 @@
-use Rattle.std.proofs.Common.{◌≡◌, sym, ◌∙◌}
+use Rattle.std.proofs.Common.{sym, ◌∙◌}
 use Rattle.arith64.proofs.Words.{is_digit_else}
 use Rattle.arith64.proofs.reader.enter_word.Goals as goal
 

@@ -1,4 +1,4 @@
-use Rattle.std.proofs.Common.{◌≡◌, sym, ◌∙◌}
+use Rattle.std.proofs.Common.{sym, ◌∙◌}
 use Rattle.arith64.proofs.Binding.{popped, stops}
 use Rattle.arith64.proofs.reducing.reduce.Goals as goal
 
