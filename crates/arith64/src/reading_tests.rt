@@ -6,6 +6,7 @@ ghost use Rattle.span_text.specs.Expressions.{Apart};
 use super::*;
 use span_text::{BinOp, Expr, Memory, Span, StepOp, Text, UnOp};
 use std::alloc::Global;
+use std::process::Abort;
 use std::test::Fail;
 
 fn binary_text(op: BinOp) -> &'static [u8] {
@@ -125,7 +126,7 @@ fn show(alloc: Global, e: &Expr, out: &mut Text) -> Result<(), Memory> {
 }
 
 /// What a text whose expansions have these spans is read as: its tree, or the offset at which it is bad.
-pub(crate) fn read_with(alloc: Global, text: &[u8], operands: &[Span]) -> Result<Text, Memory>
+fn read(alloc: Global, text: &[u8], operands: &[Span]) -> Result<Text, Memory>
     requires { Apart 0 (length text.now) operands.now }
 {
     let mut out = Text::copy(alloc, b"")?;
@@ -137,227 +138,221 @@ pub(crate) fn read_with(alloc: Global, text: &[u8], operands: &[Span]) -> Result
     Ok(out)
 }
 
-/// The same of a text without expansions.
-pub(crate) fn read(alloc: Global, text: &[u8]) -> Result<Text, Memory> {
-    read_with(alloc, text, &[])
+/// Asserts that a text whose expansions have these spans is read as this.
+fn reads_with(
+    rt: &(impl Abort + AllocGlobal),
+    text: &[u8],
+    operands: &[Span],
+    tree: &[u8],
+) -> Result<(), Memory>
+    requires { Apart 0 (length text.now) operands.now }
+{
+    let shown = read(rt.alloc(), text, operands)?;
+    assert_eq!(rt; shown.bytes(), tree);
+    Ok(())
+}
+
+/// Asserts that a text without expansions is read as this.
+pub(crate) fn reads(
+    rt: &(impl Abort + AllocGlobal),
+    text: &[u8],
+    tree: &[u8],
+) -> Result<(), Memory> {
+    reads_with(rt, text, &[], tree)
 }
 
 #[test]
 fn operands_are_read(rt: HostRuntime) -> Result<(), Fail> {
-    let rows: [(&str, &str); 16] = [
-        ("0", "0"),
-        ("017", "15"),
-        ("00", "0"),
-        ("0xfF", "255"),
-        ("0X10", "16"),
-        ("9223372036854775807", "9223372036854775807"),
-        ("0777777777777777777777", "9223372036854775807"),
-        ("0x7fffffffffffffff", "9223372036854775807"),
-        ("  a\t", "a"),
-        ("\n1\n", "1"),
-        ("_a1", "_a1"),
-        ("a[1]", "a[1]"),
-        ("a[b[c]]", "a[b[c]]"),
-        ("a[ b , c ]", "a[(, b c)]"),
-        ("(a)", "a"),
-        (" ( ( 1 ) ) ", "1"),
+    let table: [(&[u8], &[u8]); 16] = [
+        (b"0", b"0"),
+        (b"017", b"15"),
+        (b"00", b"0"),
+        (b"0xfF", b"255"),
+        (b"0X10", b"16"),
+        (b"9223372036854775807", b"9223372036854775807"),
+        (b"0777777777777777777777", b"9223372036854775807"),
+        (b"0x7fffffffffffffff", b"9223372036854775807"),
+        (b"  a\t", b"a"),
+        (b"\n1\n", b"1"),
+        (b"_a1", b"_a1"),
+        (b"a[1]", b"a[1]"),
+        (b"a[b[c]]", b"a[b[c]]"),
+        (b"a[ b , c ]", b"a[(, b c)]"),
+        (b"(a)", b"a"),
+        (b" ( ( 1 ) ) ", b"1"),
     ];
-    for (text, tree) in rows {
-        assert_eq!(rt;
-            read(rt.alloc(), text.as_bytes())?.bytes(),
-            tree.as_bytes(),
-            "{text}"
-        );
+    for (text, tree) in table {
+        reads(&rt, text, tree)?;
     }
     Ok(())
 }
 
 #[test]
 fn operators_before_operands_are_read(rt: HostRuntime) -> Result<(), Fail> {
-    let rows: [(&str, &str); 24] = [
-        ("-1", "(neg 1)"),
-        ("+a", "(pos a)"),
-        ("!a", "(! a)"),
-        ("~a", "(~ a)"),
-        ("- -1", "(neg (neg 1))"),
-        ("-!~+a", "(neg (! (~ (pos a))))"),
-        ("!-a", "(! (neg a))"),
-        ("-a++", "(neg (.++ a))"),
-        ("- --a", "(neg (--. a))"),
-        ("a++", "(.++ a)"),
-        ("a --", "(.-- a)"),
-        ("++ a", "(++. a)"),
-        ("--a", "(--. a)"),
-        ("++a[i]", "(++. a[i])"),
-        ("a[i]--", "(.-- a[i])"),
-        ("a+++b", "(+ (.++ a) b)"),
-        ("a---b", "(- (.-- a) b)"),
-        ("a + ++b", "(+ a (++. b))"),
-        ("a++ + ++b", "(+ (.++ a) (++. b))"),
-        ("1 - -2", "(- 1 (neg 2))"),
-        ("-a**b", "(** (neg a) b)"),
-        ("a**-b", "(** a (neg b))"),
-        ("!a**b", "(** (! a) b)"),
-        ("-a*b", "(* (neg a) b)"),
+    let table: [(&[u8], &[u8]); 24] = [
+        (b"-1", b"(neg 1)"),
+        (b"+a", b"(pos a)"),
+        (b"!a", b"(! a)"),
+        (b"~a", b"(~ a)"),
+        (b"- -1", b"(neg (neg 1))"),
+        (b"-!~+a", b"(neg (! (~ (pos a))))"),
+        (b"!-a", b"(! (neg a))"),
+        (b"-a++", b"(neg (.++ a))"),
+        (b"- --a", b"(neg (--. a))"),
+        (b"a++", b"(.++ a)"),
+        (b"a --", b"(.-- a)"),
+        (b"++ a", b"(++. a)"),
+        (b"--a", b"(--. a)"),
+        (b"++a[i]", b"(++. a[i])"),
+        (b"a[i]--", b"(.-- a[i])"),
+        (b"a+++b", b"(+ (.++ a) b)"),
+        (b"a---b", b"(- (.-- a) b)"),
+        (b"a + ++b", b"(+ a (++. b))"),
+        (b"a++ + ++b", b"(+ (.++ a) (++. b))"),
+        (b"1 - -2", b"(- 1 (neg 2))"),
+        (b"-a**b", b"(** (neg a) b)"),
+        (b"a**-b", b"(** a (neg b))"),
+        (b"!a**b", b"(** (! a) b)"),
+        (b"-a*b", b"(* (neg a) b)"),
     ];
-    for (text, tree) in rows {
-        assert_eq!(rt;
-            read(rt.alloc(), text.as_bytes())?.bytes(),
-            tree.as_bytes(),
-            "{text}"
-        );
+    for (text, tree) in table {
+        reads(&rt, text, tree)?;
     }
     Ok(())
 }
 
 #[test]
 fn loose_operators_group(rt: HostRuntime) -> Result<(), Fail> {
-    let rows: [(&str, &str); 25] = [
-        ("a,b,c", "(, (, a b) c)"),
-        ("a=b,c", "(, set(= a b) c)"),
-        ("a,b=c", "(, a set(= b c))"),
-        ("a=b=c", "set(= a set(= b c))"),
-        ("a=b?c:d", "set(= a (? b c d))"),
-        ("a ? b : c ? d : e", "(? a b (? c d e))"),
-        ("a?b?c:d:e", "(? a (? b c d) e)"),
-        ("a?b,c:d", "(? a (, b c) d)"),
-        ("a?b=c:d", "(? a set(= b c) d)"),
-        ("a?b:c,d", "(, (? a b c) d)"),
-        ("a||b?c:d", "(? (|| a b) c d)"),
-        ("a?b:c||d", "(? a b (|| c d))"),
-        ("a||b||c", "(|| (|| a b) c)"),
-        ("a||b&&c", "(|| a (&& b c))"),
-        ("a&&b||c", "(|| (&& a b) c)"),
-        ("a&&b&&c", "(&& (&& a b) c)"),
-        ("a&&b|c", "(&& a (| b c))"),
-        ("a|b&&c", "(&& (| a b) c)"),
-        ("a|b|c", "(| (| a b) c)"),
-        ("a|b^c", "(| a (^ b c))"),
-        ("a^b|c", "(| (^ a b) c)"),
-        ("a^b^c", "(^ (^ a b) c)"),
-        ("a^b&c", "(^ a (& b c))"),
-        ("a&b^c", "(^ (& a b) c)"),
-        ("a&b&c", "(& (& a b) c)"),
+    let table: [(&[u8], &[u8]); 25] = [
+        (b"a,b,c", b"(, (, a b) c)"),
+        (b"a=b,c", b"(, set(= a b) c)"),
+        (b"a,b=c", b"(, a set(= b c))"),
+        (b"a=b=c", b"set(= a set(= b c))"),
+        (b"a=b?c:d", b"set(= a (? b c d))"),
+        (b"a ? b : c ? d : e", b"(? a b (? c d e))"),
+        (b"a?b?c:d:e", b"(? a (? b c d) e)"),
+        (b"a?b,c:d", b"(? a (, b c) d)"),
+        (b"a?b=c:d", b"(? a set(= b c) d)"),
+        (b"a?b:c,d", b"(, (? a b c) d)"),
+        (b"a||b?c:d", b"(? (|| a b) c d)"),
+        (b"a?b:c||d", b"(? a b (|| c d))"),
+        (b"a||b||c", b"(|| (|| a b) c)"),
+        (b"a||b&&c", b"(|| a (&& b c))"),
+        (b"a&&b||c", b"(|| (&& a b) c)"),
+        (b"a&&b&&c", b"(&& (&& a b) c)"),
+        (b"a&&b|c", b"(&& a (| b c))"),
+        (b"a|b&&c", b"(&& (| a b) c)"),
+        (b"a|b|c", b"(| (| a b) c)"),
+        (b"a|b^c", b"(| a (^ b c))"),
+        (b"a^b|c", b"(| (^ a b) c)"),
+        (b"a^b^c", b"(^ (^ a b) c)"),
+        (b"a^b&c", b"(^ a (& b c))"),
+        (b"a&b^c", b"(^ (& a b) c)"),
+        (b"a&b&c", b"(& (& a b) c)"),
     ];
-    for (text, tree) in rows {
-        assert_eq!(rt;
-            read(rt.alloc(), text.as_bytes())?.bytes(),
-            tree.as_bytes(),
-            "{text}"
-        );
+    for (text, tree) in table {
+        reads(&rt, text, tree)?;
     }
     Ok(())
 }
 
 #[test]
 fn tight_operators_group(rt: HostRuntime) -> Result<(), Fail> {
-    let rows: [(&str, &str); 38] = [
-        ("a&b==c", "(& a (== b c))"),
-        ("a==b&c", "(& (== a b) c)"),
-        ("a&b!=c", "(& a (!= b c))"),
-        ("a!=b&c", "(& (!= a b) c)"),
-        ("a==b!=c", "(!= (== a b) c)"),
-        ("a==b<c", "(== a (< b c))"),
-        ("a<b==c", "(== (< a b) c)"),
-        ("a!=b>=c", "(!= a (>= b c))"),
-        ("a<=b!=c", "(!= (<= a b) c)"),
-        ("a<b<=c", "(<= (< a b) c)"),
-        ("a>b>=c", "(>= (> a b) c)"),
-        ("a<b<<c", "(< a (<< b c))"),
-        ("a<<b<c", "(< (<< a b) c)"),
-        ("a>=b>>c", "(>= a (>> b c))"),
-        ("a>>b>c", "(> (>> a b) c)"),
-        ("a<=b<<c", "(<= a (<< b c))"),
-        ("a<<b<=c", "(<= (<< a b) c)"),
-        ("a<<b>>c", "(>> (<< a b) c)"),
-        ("a<<b+c", "(<< a (+ b c))"),
-        ("a+b<<c", "(<< (+ a b) c)"),
-        ("a>>b-c", "(>> a (- b c))"),
-        ("a-b>>c", "(>> (- a b) c)"),
-        ("a-b+c", "(+ (- a b) c)"),
-        ("a+b*c", "(+ a (* b c))"),
-        ("a*b+c", "(+ (* a b) c)"),
-        ("a-b/c", "(- a (/ b c))"),
-        ("a/b-c", "(- (/ a b) c)"),
-        ("a-b%c", "(- a (% b c))"),
-        ("a%b-c", "(- (% a b) c)"),
-        ("a*b/c%d", "(% (/ (* a b) c) d)"),
-        ("a*b**c", "(* a (** b c))"),
-        ("a**b*c", "(* (** a b) c)"),
-        ("a/b**c", "(/ a (** b c))"),
-        ("a**b%c", "(% (** a b) c)"),
-        ("(a**b)**c", "(** (** a b) c)"),
-        ("a**(b**c)", "(** a (** b c))"),
-        ("a*(b+c)", "(* a (+ b c))"),
-        ("(a=b)+c", "(+ set(= a b) c)"),
+    let table: [(&[u8], &[u8]); 38] = [
+        (b"a&b==c", b"(& a (== b c))"),
+        (b"a==b&c", b"(& (== a b) c)"),
+        (b"a&b!=c", b"(& a (!= b c))"),
+        (b"a!=b&c", b"(& (!= a b) c)"),
+        (b"a==b!=c", b"(!= (== a b) c)"),
+        (b"a==b<c", b"(== a (< b c))"),
+        (b"a<b==c", b"(== (< a b) c)"),
+        (b"a!=b>=c", b"(!= a (>= b c))"),
+        (b"a<=b!=c", b"(!= (<= a b) c)"),
+        (b"a<b<=c", b"(<= (< a b) c)"),
+        (b"a>b>=c", b"(>= (> a b) c)"),
+        (b"a<b<<c", b"(< a (<< b c))"),
+        (b"a<<b<c", b"(< (<< a b) c)"),
+        (b"a>=b>>c", b"(>= a (>> b c))"),
+        (b"a>>b>c", b"(> (>> a b) c)"),
+        (b"a<=b<<c", b"(<= a (<< b c))"),
+        (b"a<<b<=c", b"(<= (<< a b) c)"),
+        (b"a<<b>>c", b"(>> (<< a b) c)"),
+        (b"a<<b+c", b"(<< a (+ b c))"),
+        (b"a+b<<c", b"(<< (+ a b) c)"),
+        (b"a>>b-c", b"(>> a (- b c))"),
+        (b"a-b>>c", b"(>> (- a b) c)"),
+        (b"a-b+c", b"(+ (- a b) c)"),
+        (b"a+b*c", b"(+ a (* b c))"),
+        (b"a*b+c", b"(+ (* a b) c)"),
+        (b"a-b/c", b"(- a (/ b c))"),
+        (b"a/b-c", b"(- (/ a b) c)"),
+        (b"a-b%c", b"(- a (% b c))"),
+        (b"a%b-c", b"(- (% a b) c)"),
+        (b"a*b/c%d", b"(% (/ (* a b) c) d)"),
+        (b"a*b**c", b"(* a (** b c))"),
+        (b"a**b*c", b"(* (** a b) c)"),
+        (b"a/b**c", b"(/ a (** b c))"),
+        (b"a**b%c", b"(% (** a b) c)"),
+        (b"(a**b)**c", b"(** (** a b) c)"),
+        (b"a**(b**c)", b"(** a (** b c))"),
+        (b"a*(b+c)", b"(* a (+ b c))"),
+        (b"(a=b)+c", b"(+ set(= a b) c)"),
     ];
-    for (text, tree) in rows {
-        assert_eq!(rt;
-            read(rt.alloc(), text.as_bytes())?.bytes(),
-            tree.as_bytes(),
-            "{text}"
-        );
+    for (text, tree) in table {
+        reads(&rt, text, tree)?;
     }
     Ok(())
 }
 
 #[test]
 fn assignments_are_read(rt: HostRuntime) -> Result<(), Fail> {
-    let rows: [(&str, &str); 15] = [
-        ("a*=b", "set(* a b)"),
-        ("a/=b", "set(/ a b)"),
-        ("a%=b", "set(% a b)"),
-        ("a+=b", "set(+ a b)"),
-        ("a-=b", "set(- a b)"),
-        ("a<<=b", "set(<< a b)"),
-        ("a>>=b", "set(>> a b)"),
-        ("a&=b", "set(& a b)"),
-        ("a^=b", "set(^ a b)"),
-        ("a|=b", "set(| a b)"),
-        ("a[1]+=2", "set(+ a[1] 2)"),
-        ("a=b+=c", "set(= a set(+ b c))"),
-        ("a=!b", "set(= a (! b))"),
-        ("a==!b", "(== a (! b))"),
-        ("a = b == c", "set(= a (== b c))"),
+    let table: [(&[u8], &[u8]); 15] = [
+        (b"a*=b", b"set(* a b)"),
+        (b"a/=b", b"set(/ a b)"),
+        (b"a%=b", b"set(% a b)"),
+        (b"a+=b", b"set(+ a b)"),
+        (b"a-=b", b"set(- a b)"),
+        (b"a<<=b", b"set(<< a b)"),
+        (b"a>>=b", b"set(>> a b)"),
+        (b"a&=b", b"set(& a b)"),
+        (b"a^=b", b"set(^ a b)"),
+        (b"a|=b", b"set(| a b)"),
+        (b"a[1]+=2", b"set(+ a[1] 2)"),
+        (b"a=b+=c", b"set(= a set(+ b c))"),
+        (b"a=!b", b"set(= a (! b))"),
+        (b"a==!b", b"(== a (! b))"),
+        (b"a = b == c", b"set(= a (== b c))"),
     ];
-    for (text, tree) in rows {
-        assert_eq!(rt;
-            read(rt.alloc(), text.as_bytes())?.bytes(),
-            tree.as_bytes(),
-            "{text}"
-        );
+    for (text, tree) in table {
+        reads(&rt, text, tree)?;
     }
     Ok(())
 }
 
 #[test]
 fn joins_count_as_removed(rt: HostRuntime) -> Result<(), Fail> {
-    let rows: [(&str, &str); 18] = [
-        ("1\\\n2", "12"),
-        ("a\\\nb", "ab"),
-        ("a<\\\n<\\\n=b", "set(<< a b)"),
-        ("a+\\\n+", "(.++ a)"),
-        ("0\\\nx1", "1"),
-        ("a\\\n", "a"),
-        ("\\\na", "a"),
-        ("a\\\n[1]", "a[1]"),
-        ("a \\\n\\\n + b", "(+ a b)"),
-        ("a<\\\n b", "(< a b)"),
-        ("a<\\\nb", "(< a b)"),
-        ("a\\b", "bad 2"),
-        ("a\\", "bad 2"),
-        ("\\ a", "bad 1"),
-        ("a\\\\\n", "bad 2"),
-        ("1\\\n", "1"),
-        ("1 \\\n2", "bad 4"),
-        ("1+\\\n=2", "bad 4"),
+    let table: [(&[u8], &[u8]); 18] = [
+        (b"1\\\n2", b"12"),
+        (b"a\\\nb", b"ab"),
+        (b"a<\\\n<\\\n=b", b"set(<< a b)"),
+        (b"a+\\\n+", b"(.++ a)"),
+        (b"0\\\nx1", b"1"),
+        (b"a\\\n", b"a"),
+        (b"\\\na", b"a"),
+        (b"a\\\n[1]", b"a[1]"),
+        (b"a \\\n\\\n + b", b"(+ a b)"),
+        (b"a<\\\n b", b"(< a b)"),
+        (b"a<\\\nb", b"(< a b)"),
+        (b"a\\b", b"bad 2"),
+        (b"a\\", b"bad 2"),
+        (b"\\ a", b"bad 1"),
+        (b"a\\\\\n", b"bad 2"),
+        (b"1\\\n", b"1"),
+        (b"1 \\\n2", b"bad 4"),
+        (b"1+\\\n=2", b"bad 4"),
     ];
-    for (text, tree) in rows {
-        assert_eq!(rt;
-            read(rt.alloc(), text.as_bytes())?.bytes(),
-            tree.as_bytes(),
-            "{text}"
-        );
+    for (text, tree) in table {
+        reads(&rt, text, tree)?;
     }
     Ok(())
 }
@@ -373,57 +368,18 @@ fn expansions_are_operands(rt: HostRuntime) -> Result<(), Fail> {
         Span { from: 5, to: 7 },
         Span { from: 8, to: 10 },
     ];
-    assert_eq!(rt;
-        read_with(alloc, b"$x+1", &first)?.bytes(),
-        "(+ $0 1)".as_bytes()
-    );
-    assert_eq!(rt;
-        read_with(alloc, b"1+$x", &second)?.bytes(),
-        "(+ 1 $0)".as_bytes()
-    );
-    assert_eq!(rt;
-        read_with(alloc, b"a[$x]", &second)?.bytes(),
-        "a[$0]".as_bytes()
-    );
-    assert_eq!(rt;
-        read_with(alloc, b"${a}*$x-$y", &three)?.bytes(),
-        "(- (* $0 $1) $2)".as_bytes()
-    );
-    assert_eq!(rt;
-        read_with(alloc, b"$(()?$x:$y", &three)?.bytes(),
-        "(? $0 $1 $2)".as_bytes()
-    );
-    assert_eq!(rt;
-        read_with(alloc, b"$x$y", &both)?.bytes(),
-        "bad 2".as_bytes()
-    );
-    assert_eq!(rt;
-        read_with(alloc, b"$x[1]", &first)?.bytes(),
-        "bad 2".as_bytes()
-    );
-    assert_eq!(rt;
-        read_with(alloc, b"$x=1", &first)?.bytes(),
-        "bad 3".as_bytes()
-    );
-    assert_eq!(rt;
-        read_with(alloc, b"$x++", &first)?.bytes(),
-        "bad 3".as_bytes()
-    );
-    assert_eq!(rt;
-        read_with(alloc, b"ab$x", &second)?.bytes(),
-        "bad 2".as_bytes()
-    );
-    assert_eq!(rt;
-        read_with(alloc, b"++$x", &second)?.bytes(),
-        "bad 2".as_bytes()
-    );
-    assert_eq!(rt;
-        read_with(alloc, b" \\$x", &second)?.bytes(),
-        "bad 2".as_bytes()
-    );
-    assert_eq!(rt;
-        read_with(alloc, b"($x", &[Span { from: 1, to: 3 }])?.bytes(),
-        "bad 3".as_bytes()
-    );
+    reads_with(&rt, b"$x+1", &first, b"(+ $0 1)")?;
+    reads_with(&rt, b"1+$x", &second, b"(+ 1 $0)")?;
+    reads_with(&rt, b"a[$x]", &second, b"a[$0]")?;
+    reads_with(&rt, b"${a}*$x-$y", &three, b"(- (* $0 $1) $2)")?;
+    reads_with(&rt, b"$(()?$x:$y", &three, b"(? $0 $1 $2)")?;
+    reads_with(&rt, b"$x$y", &both, b"bad 2")?;
+    reads_with(&rt, b"$x[1]", &first, b"bad 2")?;
+    reads_with(&rt, b"$x=1", &first, b"bad 3")?;
+    reads_with(&rt, b"$x++", &first, b"bad 3")?;
+    reads_with(&rt, b"ab$x", &second, b"bad 2")?;
+    reads_with(&rt, b"++$x", &second, b"bad 2")?;
+    reads_with(&rt, b" \\$x", &second, b"bad 2")?;
+    reads_with(&rt, b"($x", &[Span { from: 1, to: 3 }], b"bad 3")?;
     Ok(())
 }

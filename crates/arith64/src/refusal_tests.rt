@@ -1,103 +1,95 @@
 //! Texts that are refused, and long ones.
 
 use crate::read_expr;
-use crate::reading_tests::read;
+use crate::reading_tests::reads;
 use span_text::{Memory, Text};
 use std::alloc::Global;
 use std::test::Fail;
 
 #[test]
 fn words_are_refused(rt: HostRuntime) -> Result<(), Fail> {
-    let rows: [(&str, &str); 29] = [
-        ("", "bad 0"),
-        (" ", "bad 1"),
-        ("1 2", "bad 2"),
-        ("a b", "bad 2"),
-        ("1a", "bad 1"),
-        ("08", "bad 1"),
-        ("009", "bad 2"),
-        ("0x", "bad 2"),
-        ("0xg", "bad 2"),
-        ("0x1g", "bad 3"),
-        ("00x1", "bad 2"),
-        ("9223372036854775808", "bad 18"),
-        ("0x8000000000000000", "bad 17"),
-        ("01000000000000000000000", "bad 22"),
-        ("10#1", "bad 2"),
-        ("$a", "bad 0"),
-        ("'1'", "bad 0"),
-        ("a;", "bad 1"),
-        ("a.b", "bad 1"),
-        ("a [1]", "bad 2"),
-        ("1[2]", "bad 1"),
-        ("a[]", "bad 2"),
-        ("a[1", "bad 3"),
-        ("a[1)", "bad 3"),
-        ("(1]", "bad 2"),
-        ("(1", "bad 2"),
-        ("1)", "bad 1"),
-        ("()", "bad 1"),
-        ("(a)[1]", "bad 3"),
+    let table: [(&[u8], &[u8]); 29] = [
+        (b"", b"bad 0"),
+        (b" ", b"bad 1"),
+        (b"1 2", b"bad 2"),
+        (b"a b", b"bad 2"),
+        (b"1a", b"bad 1"),
+        (b"08", b"bad 1"),
+        (b"009", b"bad 2"),
+        (b"0x", b"bad 2"),
+        (b"0xg", b"bad 2"),
+        (b"0x1g", b"bad 3"),
+        (b"00x1", b"bad 2"),
+        (b"9223372036854775808", b"bad 18"),
+        (b"0x8000000000000000", b"bad 17"),
+        (b"01000000000000000000000", b"bad 22"),
+        (b"10#1", b"bad 2"),
+        (b"$a", b"bad 0"),
+        (b"'1'", b"bad 0"),
+        (b"a;", b"bad 1"),
+        (b"a.b", b"bad 1"),
+        (b"a [1]", b"bad 2"),
+        (b"1[2]", b"bad 1"),
+        (b"a[]", b"bad 2"),
+        (b"a[1", b"bad 3"),
+        (b"a[1)", b"bad 3"),
+        (b"(1]", b"bad 2"),
+        (b"(1", b"bad 2"),
+        (b"1)", b"bad 1"),
+        (b"()", b"bad 1"),
+        (b"(a)[1]", b"bad 3"),
     ];
-    for (text, tree) in rows {
-        assert_eq!(rt;
-            read(rt.alloc(), text.as_bytes())?.bytes(),
-            tree.as_bytes(),
-            "{text}"
-        );
+    for (text, tree) in table {
+        reads(&rt, text, tree)?;
     }
     Ok(())
 }
 
 #[test]
 fn operators_are_refused(rt: HostRuntime) -> Result<(), Fail> {
-    let rows: [(&str, &str); 39] = [
-        ("1--2", "bad 2"),
-        ("1++", "bad 2"),
-        ("--1", "bad 2"),
-        ("--a--", "bad 4"),
-        ("a++++b", "bad 4"),
-        ("a++b", "bad 3"),
-        ("+++a", "bad 2"),
-        ("++(a)", "bad 2"),
-        ("1=2", "bad 2"),
-        ("a+b=c", "bad 4"),
-        ("a+b=", "bad 4"),
-        ("1+=2", "bad 2"),
-        ("(a)=1", "bad 4"),
-        ("(a)++", "bad 4"),
-        ("a?b:c=d", "bad 6"),
-        ("-a=1", "bad 3"),
-        ("a||b=c", "bad 5"),
-        ("a=b+c=d", "bad 6"),
-        ("a**b**c", "bad 5"),
-        ("a**b**", "bad 5"),
-        ("a?b", "bad 3"),
-        ("a?b)", "bad 3"),
-        ("a:b", "bad 1"),
-        ("a?b:c:d", "bad 5"),
-        ("(a?b):c", "bad 4"),
-        (",a", "bad 0"),
-        ("a,,b", "bad 2"),
-        ("a,", "bad 2"),
-        ("*a", "bad 0"),
-        ("a*", "bad 2"),
-        ("a<<", "bad 3"),
-        ("a=", "bad 2"),
-        ("a! =b", "bad 2"),
-        ("a !", "bad 3"),
-        ("!", "bad 1"),
-        ("a&&&b", "bad 3"),
-        ("a~", "bad 1"),
-        ("a<<<b", "bad 3"),
-        ("a= =b", "bad 3"),
+    let table: [(&[u8], &[u8]); 39] = [
+        (b"1--2", b"bad 2"),
+        (b"1++", b"bad 2"),
+        (b"--1", b"bad 2"),
+        (b"--a--", b"bad 4"),
+        (b"a++++b", b"bad 4"),
+        (b"a++b", b"bad 3"),
+        (b"+++a", b"bad 2"),
+        (b"++(a)", b"bad 2"),
+        (b"1=2", b"bad 2"),
+        (b"a+b=c", b"bad 4"),
+        (b"a+b=", b"bad 4"),
+        (b"1+=2", b"bad 2"),
+        (b"(a)=1", b"bad 4"),
+        (b"(a)++", b"bad 4"),
+        (b"a?b:c=d", b"bad 6"),
+        (b"-a=1", b"bad 3"),
+        (b"a||b=c", b"bad 5"),
+        (b"a=b+c=d", b"bad 6"),
+        (b"a**b**c", b"bad 5"),
+        (b"a**b**", b"bad 5"),
+        (b"a?b", b"bad 3"),
+        (b"a?b)", b"bad 3"),
+        (b"a:b", b"bad 1"),
+        (b"a?b:c:d", b"bad 5"),
+        (b"(a?b):c", b"bad 4"),
+        (b",a", b"bad 0"),
+        (b"a,,b", b"bad 2"),
+        (b"a,", b"bad 2"),
+        (b"*a", b"bad 0"),
+        (b"a*", b"bad 2"),
+        (b"a<<", b"bad 3"),
+        (b"a=", b"bad 2"),
+        (b"a! =b", b"bad 2"),
+        (b"a !", b"bad 3"),
+        (b"!", b"bad 1"),
+        (b"a&&&b", b"bad 3"),
+        (b"a~", b"bad 1"),
+        (b"a<<<b", b"bad 3"),
+        (b"a= =b", b"bad 3"),
     ];
-    for (text, tree) in rows {
-        assert_eq!(rt;
-            read(rt.alloc(), text.as_bytes())?.bytes(),
-            tree.as_bytes(),
-            "{text}"
-        );
+    for (text, tree) in table {
+        reads(&rt, text, tree)?;
     }
     Ok(())
 }
@@ -115,21 +107,17 @@ fn repeated(alloc: Global, count: u32, piece: &[u8], end: &[u8]) -> Result<Text,
 #[test]
 fn what_stands_open_takes_no_deep_stack(rt: HostRuntime) -> Result<(), Fail> {
     let alloc = rt.alloc();
-    let rows: [(&str, &str); 6] = [
-        ("- ", "bad 20000"),
-        ("a=", "bad 20000"),
-        ("a?", "bad 20000"),
-        ("a[", "bad 20000"),
-        ("(", "bad 10000"),
-        ("a?1:", "bad 40000"),
+    let table: [(&[u8], &[u8]); 6] = [
+        (b"- ", b"bad 20000"),
+        (b"a=", b"bad 20000"),
+        (b"a?", b"bad 20000"),
+        (b"a[", b"bad 20000"),
+        (b"(", b"bad 10000"),
+        (b"a?1:", b"bad 40000"),
     ];
-    for (piece, tree) in rows {
-        let text = repeated(alloc, 10_000, piece.as_bytes(), b"")?;
-        assert_eq!(rt;
-            read(alloc, text.bytes())?.bytes(),
-            tree.as_bytes(),
-            "{piece}"
-        );
+    for (piece, tree) in table {
+        let text = repeated(alloc, 10_000, piece, b"")?;
+        reads(&rt, text.bytes(), tree)?;
     }
     Ok(())
 }
@@ -148,9 +136,10 @@ fn is_read(alloc: Global, text: &[u8]) -> bool {
 #[test]
 fn many_operators_in_a_row_are_read(rt: HostRuntime) -> Result<(), Fail> {
     let alloc = rt.alloc();
-    for piece in ["a,", "a=", "a?1:", "a||"] {
-        let text = repeated(alloc, 10_000, piece.as_bytes(), b"1")?;
-        assert!(rt; is_read(alloc, text.bytes()), "{piece}");
+    let pieces: [&[u8]; 4] = [b"a,", b"a=", b"a?1:", b"a||"];
+    for piece in pieces {
+        let text = repeated(alloc, 10_000, piece, b"1")?;
+        assert!(rt; is_read(alloc, text.bytes()));
     }
     Ok(())
 }
