@@ -1,3 +1,11 @@
 pub mod Powers
 pub mod Wraps
 pub mod Reading
+pub mod Binding
+pub mod Complete
+pub mod Sound
+pub mod Words
+pub mod Ahead
+pub mod Exact
+pub mod Place
+pub mod Loop

@@ -5,12 +5,13 @@ ghost use Rattle.span_text.specs.Constant.{number_of, unsigned_constant, minus, 
 ghost use Rattle.arith64.specs.Digits.{with_digit, number_after};
 
 /// The greatest value of a constant.
-const GREATEST: u64 = 0x7fff_ffff_ffff_ffff;
+pub(crate) const GREATEST: u64 = 0x7fff_ffff_ffff_ffff;
 
 /// The greatest value of a constant behind a minus.
 const GREATEST_NEGATED: u64 = 0x8000_0000_0000_0000;
 
-fn next_number(most: u64, radix: u32, number: u64, byte: u8) -> Option<u64>
+/// The number with one digit more, where the byte is a digit and the number isn't too much.
+pub(crate) fn next_number(most: u64, radix: u32, number: u64, byte: u8) -> Option<u64>
     requires low { 2 ≤ radix }
     requires high { radix ≤ 16 }
     ensures value { result ≡ with_digit most radix number byte }
