@@ -16,6 +16,8 @@ mod messages;
 mod program;
 #[cfg(test)]
 mod tests;
+#[cfg(test)]
+mod translate_tests;
 mod translator;
 mod words;
 
