@@ -20,6 +20,8 @@ mod program;
 mod status;
 #[cfg(test)]
 mod tests;
+#[cfg(test)]
+mod translate_tests;
 mod translator;
 mod words;
 
