@@ -8,3 +8,4 @@ pub mod Holding
 pub mod GoodWorlds
 pub mod ReadWorlds
 pub mod TextLaws
+pub mod Limits

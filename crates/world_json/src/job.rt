@@ -1,6 +1,6 @@
 //! A job: a script and the world that it is to run in.
 
-ghost use Rattle.std.specs.Prelude.{◌≡◌, ◌⊎◌, [], ◌∷◌, Some, IfOk, codes};
+ghost use Rattle.std.specs.Prelude.{◌≡◌, ◌≤◌, ◌⊎◌, length, [], ◌∷◌, Some, IfOk, codes};
 ghost use Rattle.serde_json.specs.Errors.{IsMemory};
 ghost use Rattle.serde_json.specs.View.{view};
 ghost use Rattle.shell_world.specs.World.{IsGood};
@@ -43,6 +43,7 @@ pub struct Job {
 pub fn read(alloc: Global, text: &[u8], limit: u32) -> Result<Job, JobFault>
     ensures judged { judging.IsJudged (jobs.job_of limit text.now) result }
     ensures good { IfOk result (λ job. IsGood job.world) }
+    ensures small { IfOk result (λ job. length job.script ≤ limit) }
 {
     match Value::from_slice(alloc, text) {
         Ok(value) => value_job(alloc, &value, limit),
