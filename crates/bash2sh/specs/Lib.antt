@@ -1,6 +1,7 @@
 pub mod Answers
 pub mod Form
 pub mod Input
+pub mod LineTexts
 pub mod Lower
 pub mod Model
 pub mod Program

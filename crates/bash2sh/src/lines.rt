@@ -20,7 +20,7 @@ use span_text::{Class, List, Memory, Span, all_in, run, run_len};
 use std::alloc::Global;
 
 /// The first line, and what stands behind its newline.
-fn first_line(text: &[u8]) -> (&[u8], Option<&[u8]>)
+pub fn first_line(text: &[u8]) -> (&[u8], Option<&[u8]>)
     ensures { Cut text.now result.0.now result.1 }
 {
     match memchr(b'\n', text) {
@@ -64,7 +64,7 @@ fn front_of(alloc: Global, front: &[u8], end: usize) -> Result<Option<CommandKin
 
 /// The command of a line that ends at the offset `end` of its text; nothing where the line is blank or a comment.
 #[tactic(auto, unfolding(crate::specs::Model::line_at))]
-fn line_of(alloc: Global, line: &[u8], end: usize) -> Result<Option<CommandKind>, Stop>
+pub fn line_of(alloc: Global, line: &[u8], end: usize) -> Result<Option<CommandKind>, Stop>
     ensures { Gives command_seen result (line_at line.now) }
 {
     let (_, front) = run(Class::Blank, line);
@@ -72,7 +72,7 @@ fn line_of(alloc: Global, line: &[u8], end: usize) -> Result<Option<CommandKind>
 }
 
 /// A command by itself, as a complete command of a script.
-fn item(alloc: Global, kind: CommandKind, span: Span) -> Result<Item, Memory>
+pub fn item(alloc: Global, kind: CommandKind, span: Span) -> Result<Item, Memory>
     ensures { IfOk result (λ i. items_of (i ∷ []) ≡ shape.item (alone (command_of kind)) shape.no_item) }
 {
     let mut stages = List::new(alloc);

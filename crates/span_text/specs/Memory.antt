@@ -19,6 +19,11 @@ pub record Store : Type 0 where
   pub writes : ℕ
   pub faults : ℕ
 
+-- what a text that grows by what is written is: the bytes that it took, and how often memory was missing
+pub record Gathered : Type 0 where
+  pub text : List ℕ
+  pub faults : ℕ
+
 -- one more, up to the greatest number of 64 bits
 abbrev pub counted : ℕ → ℕ
 counted n = min (n + 1) (2 ^ 64 - 1)

@@ -9,6 +9,7 @@ mod boxed;
 mod expr;
 mod fault;
 mod flagged;
+mod gather;
 mod known_names;
 mod list;
 mod memory;
@@ -26,6 +27,7 @@ pub use boxed::Boxed;
 pub use expr::{BinOp, Expr, StepOp, UnOp};
 pub use fault::{Failed, Memory};
 pub use flagged::{Flagged, Item, Mark};
+pub use gather::TextSink;
 pub use known_names::{
     is_bash_word, is_builtin, is_known_command, is_refused_builtin, is_restricted, is_special_name,
     is_standard_word,

@@ -76,6 +76,10 @@ impl<T: Drop> List<T> {
         ensures ok { OnOk result (self.new ≡ self.old ++ item ∷ []) }
         ensures err { OnErr result (self.new ≡ self.old) }
     {
+        // Most lists of a syntax tree hold one item: the first takes no more room than it needs.
+        if self.cells.is_empty() {
+            self.cells.reserve_exact(1)?;
+        }
         self.cells.push(item)?;
         Ok(())
     }
