@@ -10,6 +10,7 @@ mod commands;
 mod fault;
 mod form;
 mod input;
+mod language;
 mod line_texts;
 mod lines;
 mod lowering;

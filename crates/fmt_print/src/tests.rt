@@ -54,7 +54,7 @@ fn refuses(
 
 #[test]
 fn printf_signed_numbers(rt: HostRuntime) -> Result<(), Fail> {
-    let table: [(&[u8], &[u8], &[u8]); 53] = [
+    let table: [(&[u8], &[u8], &[u8]); 63] = [
         (b"%d", b",42", b"42"),
         (b"%i", b",42", b"42"),
         (b"%5d", b",42", b"   42"),
@@ -108,6 +108,16 @@ fn printf_signed_numbers(rt: HostRuntime) -> Result<(), Fail> {
         (b"%+.0d", b",0", b"+"),
         (b"% .0d", b",0", b" "),
         (b"%+d", b",0", b"+0"),
+        (b"%-5i|", b",42", b"42   |"),
+        (b"%05i", b",42", b"00042"),
+        (b"%+i", b",42", b"+42"),
+        (b"% i", b",42", b" 42"),
+        (b"%-+ 06i|", b",42", b"+42   |"),
+        (b"%.0i", b",0", b""),
+        (b"%0d", b",42", b"42"),
+        (b"%-0d|", b",42", b"42|"),
+        (b"%--5d|", b",42", b"42   |"),
+        (b"%2d", b",12345", b"12345"),
     ];
     for (fmt, arguments, text) in table {
         prints(&rt, fmt, arguments, text, false)?;
@@ -117,7 +127,7 @@ fn printf_signed_numbers(rt: HostRuntime) -> Result<(), Fail> {
 
 #[test]
 fn printf_unsigned_numbers(rt: HostRuntime) -> Result<(), Fail> {
-    let table: [(&[u8], &[u8], &[u8]); 56] = [
+    let table: [(&[u8], &[u8], &[u8]); 60] = [
         (b"%u", b",43981", b"43981"),
         (b"%8u", b",43981", b"   43981"),
         (b"%-8u|", b",43981", b"43981   |"),
@@ -174,6 +184,10 @@ fn printf_unsigned_numbers(rt: HostRuntime) -> Result<(), Fail> {
         (b"%X", b",-9223372036854775808", b"8000000000000000"),
         (b"%X", b",0", b"0"),
         (b"%5X", b",-0", b"    0"),
+        (b"%0u", b",7", b"7"),
+        (b"%5.0x", b",0", b"     "),
+        (b"%-5.3o|", b",8", b"010  |"),
+        (b"%05X", b",-1", b"FFFFFFFFFFFFFFFF"),
     ];
     for (fmt, arguments, text) in table {
         prints(&rt, fmt, arguments, text, false)?;
@@ -183,11 +197,13 @@ fn printf_unsigned_numbers(rt: HostRuntime) -> Result<(), Fail> {
 
 #[test]
 fn printf_texts(rt: HostRuntime) -> Result<(), Fail> {
-    let table: [(&[u8], &[u8], &[u8]); 31] = [
+    let table: [(&[u8], &[u8], &[u8]); 33] = [
         (b"%s", b",abc", b"abc"),
         (b"%5s", b",abc", b"  abc"),
         (b"%-5s|", b",abc", b"abc  |"),
         (b"%2s", b",abc", b"abc"),
+        (b"%5s", b",abcdefgh", b"abcdefgh"),
+        (b"%-5s|", b",abcdefgh", b"abcdefgh|"),
         (b"%.2s", b",abc", b"ab"),
         (b"%5.2s", b",abc", b"   ab"),
         (b"%-5.2s|", b",abc", b"ab   |"),

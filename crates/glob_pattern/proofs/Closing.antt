@@ -1,10 +1,9 @@
 -- Signs that are passed over.
-use Rattle.std.proofs.Common.{◌≡◌, ℕ, zero, suc, ◌+◌, ◌-◌, ◌<◌, ◌≤◌, Bool, true, false, List, [], ◌∷◌, length, drop, Option, Some, None, refl, sym, ap, subst, ◌∙◌, arith}
-use Rattle.std.specs.Prelude.{if◌then◌else◌}
+use Rattle.std.proofs.Common.{◌≡◌, ℕ, zero, suc, ◌+◌, ◌-◌, ◌<◌, ◌≤◌, true, false, List, [], ◌∷◌, length, drop, Option, Some, None, refl, sym, ap, ◌∙◌, arith}
 use Rattle.std.proofs.lemmas.List.{drop-drop}
 use Rattle.glob_pattern.specs.declared.sign.Sign.{Sign}
-use Rattle.glob_pattern.specs.Signs.{is_sign, starts}
-use Rattle.glob_pattern.specs.Brackets.{plus, element_len, close_len, parts}
+use Rattle.glob_pattern.specs.Signs.{starts}
+use Rattle.glob_pattern.specs.Brackets.{plus, element_len, close_len}
 
 plus_nothing : (o : Option ℕ) → plus 0 o ≡ o
 plus_nothing None = refl

@@ -1,10 +1,10 @@
 -- Cutting a text for the first piece.
-use Rattle.std.proofs.Common.{◌≡◌, ℕ, zero, suc, ◌+◌, ◌<◌, ◌≤◌, Bool, true, false, List, [], ◌∷◌, ◌++◌, length, drop, refl, sym, ap, subst, ◌∙◌, arith}
-use Rattle.std.specs.Prelude.{◌||◌, ◌&&◌, if◌then◌else◌}
+use Rattle.std.proofs.Common.{◌≡◌, ℕ, zero, suc, ◌+◌, ◌<◌, Bool, true, false, List, [], ◌∷◌, ◌++◌, length, drop, refl, sym, ap, ◌∙◌, arith}
+use Rattle.std.specs.Prelude.{◌||◌, ◌&&◌}
 use Rattle.std.proofs.lemmas.List.{length-append}
 use Rattle.glob_pattern.specs.declared.piece.Piece.{Piece}
 use Rattle.glob_pattern.specs.declared.piece.Piece.TheVariants.{Byte, Any, Run, Among, Outside}
-use Rattle.glob_pattern.specs.Pieces.{takes, is_run, is_one, fits, some_cut, is_nothing, matches}
+use Rattle.glob_pattern.specs.Pieces.{takes, is_run, is_one, fits, some_cut, matches}
 use Rattle.glob_pattern.specs.Steps.{all_runs}
 
 -- whether some end of a text passes

@@ -1,15 +1,14 @@
 -- One point of return is enough.
-use Rattle.std.proofs.Common.{◌≡◌, ℕ, zero, suc, ◌+◌, ◌-◌, ◌*◌, ◌<◌, ◌≤◌, Bool, true, false, List, [], ◌∷◌, ◌++◌, length, drop, get_or, refl, sym, ap, subst, ◌∙◌, arith, add-one}
-use Rattle.std.specs.Prelude.{◌||◌, ◌&&◌, ◌==◌, not, if◌then◌else◌}
+use Rattle.std.proofs.Common.{◌≡◌, ℕ, zero, suc, ◌<◌, ◌≤◌, Bool, true, false, List, [], ◌∷◌, length, drop, get_or, refl, sym, ap, ◌∙◌, arith, add-one}
+use Rattle.std.specs.Prelude.{◌&&◌, ◌==◌, if◌then◌else◌}
 use Rattle.std.proofs.lemmas.Bool.Decides.{nat_tests}
 use Rattle.std.proofs.lemmas.List.{drop-drop}
 use Rattle.glob_pattern.specs.declared.piece.Piece.{Piece}
 use Rattle.glob_pattern.specs.declared.piece.Piece.TheVariants.{Byte, Any, Run, Among, Outside}
-use Rattle.glob_pattern.specs.declared.matching.Step.{Step}
 use Rattle.glob_pattern.specs.declared.matching.Step.TheVariants as step
 use Rattle.glob_pattern.specs.Pieces.{takes, is_run, matches}
 use Rattle.glob_pattern.specs.Steps.{step_of, all_runs}
-use Rattle.glob_pattern.proofs.Cuts.{some_end, matches-run, matches-nothing, matches-one, matches-none, matches-end, one_step, end_here, end_drop, end_found}
+use Rattle.glob_pattern.proofs.Cuts.{some_end, matches-run, matches-one, matches-none, matches-end, one_step, end_here, end_drop, end_found}
 
 -- whether the pieces behind the last run match some of what it has not taken; before a run, the whole of it
 abbrev pub answer : Bool → List Piece → List ℕ → Bool

@@ -1,7 +1,6 @@
 -- The least and the greatest number that passes.
-use Rattle.std.proofs.Common.{◌≡◌, ℕ, zero, suc, ◌+◌, ◌<◌, ◌≤◌, ◌⊎◌, inl, inr, Bool, true, false, Option, Some, None, refl, sym, ap, subst, ◌∙◌, arith}
-use Rattle.std.specs.Prelude.{if◌then◌else◌}
-use Rattle.glob_pattern.specs.Lengths.{or_else, passing, least, greatest}
+use Rattle.std.proofs.Common.{◌≡◌, ℕ, zero, suc, ◌<◌, ◌≤◌, ◌⊎◌, inl, inr, Bool, true, false, Some, None, refl, sym, subst, arith}
+use Rattle.glob_pattern.specs.Lengths.{least, greatest}
 
 pub least_none : (test : ℕ → Bool) (m : ℕ) → ((k : ℕ) → k ≤ m → test k ≡ false) → None ≡ least test m
 least_none test zero none = let e : test 0 ≡ false = none 0 (omega arith) in rw e refl

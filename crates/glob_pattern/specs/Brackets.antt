@@ -1,7 +1,6 @@
 -- Brackets: the Bash manual's "Pattern Matching", POSIX's "RE Bracket Expression" (XBD 9.3.5) with `!` beside `^`.
 use Rattle.std.specs.Prelude.{ℕ, zero, suc, ◌+◌, ◌-◌, Bool, true, false, not, ◌||◌, ◌&&◌, ◌==◌, if◌then◌else◌, nat_lt, min, List, [], ◌∷◌, length, take, drop, Option, Some, None, codes}
 use Rattle.std.specs.List.{prefix_len}
-use Rattle.std.specs.Char.{is_ascii_alphanumeric}
 use Rattle.span_text.specs.declared.flagged.Mark.{Mark}
 use Rattle.span_text.specs.declared.flagged.Mark.TheVariants.{Written, Quoted, Value}
 use Rattle.glob_pattern.specs.declared.sign.Sign.{Sign}
@@ -32,13 +31,14 @@ least_place (place ∷ places) = lesser place (least_place places)
 
 -- `[:` a name `:]`
 
-abbrev pub is_letter : Sign → Bool
-is_letter sign = is_ascii_alphanumeric sign.byte && is_bare sign.mark
+-- A byte of a name, any but `:` and `]`: what Bash takes for a class isn't only what has a known name.
+abbrev pub is_in_name : Sign → Bool
+is_in_name sign = is_bare sign.mark && not (sign.byte == 58 || sign.byte == 93)
 
 abbrev pub name_len : List Sign → ℕ
-name_len signs = prefix_len is_letter signs
+name_len signs = prefix_len is_in_name signs
 
--- the length of a class at the front, whose name has n letters; 0 where there is none
+-- the length of a class at the front, whose name has n bytes; 0 where there is none
 abbrev pub class_len_by : ℕ → List Sign → ℕ
 class_len_by n signs = if starts 91 signs && starts 58 (drop 1 signs) && not (n == 0) && starts 58 (drop (n + 2) signs) && starts 93 (drop (n + 3) signs)
     then n + 4 else 0

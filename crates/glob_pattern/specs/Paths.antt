@@ -1,5 +1,5 @@
 -- Names of files: the Bash manual's "Filename Expansion", POSIX's "Patterns Used for Filename Expansion" (XCU 2.13.3).
-use Rattle.std.specs.Prelude.{ℕ, ◌+◌, Bool, true, false, not, ◌||◌, ◌&&◌, ◌==◌, if◌then◌else◌, List, [], ◌∷◌, ◌++◌, length, drop, map, Option, Some, None}
+use Rattle.std.specs.Prelude.{ℕ, Bool, true, false, not, ◌||◌, ◌&&◌, ◌==◌, if◌then◌else◌, List, [], ◌∷◌, ◌++◌, length, map, Option, Some, None}
 use Rattle.std.specs.List.{list_any, filter_map, starts_with}
 use Rattle.span_text.specs.declared.flagged.Item.{Item}
 use Rattle.glob_pattern.specs.declared.sign.Sign.{Sign}

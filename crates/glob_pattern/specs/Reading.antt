@@ -1,9 +1,8 @@
 -- Pieces of a pattern, and its first doubtful place.
-use Rattle.std.specs.Prelude.{ℕ, ◌+◌, Bool, ◌==◌, if◌then◌else◌, List, [], ◌∷◌, drop, Option, Some, None}
+use Rattle.std.specs.Prelude.{ℕ, ◌+◌, ◌==◌, if◌then◌else◌, List, [], ◌∷◌, drop, Option, Some, None}
 use Rattle.span_text.specs.declared.flagged.Item.{Item}
 use Rattle.glob_pattern.specs.declared.sign.Sign.{Sign}
 use Rattle.glob_pattern.specs.declared.sign.Use.{Use}
-use Rattle.glob_pattern.specs.declared.sign.Use.TheVariants as use_of
 use Rattle.glob_pattern.specs.declared.piece.Piece.{Piece}
 use Rattle.glob_pattern.specs.declared.piece.Piece.TheVariants.{Byte, Any, Run, Among, Outside}
 use Rattle.glob_pattern.specs.Signs.{signs_from, is_sign}

@@ -1,5 +1,5 @@
 -- What the first of some pieces does with a byte.
-use Rattle.std.specs.Prelude.{ℕ, Bool, true, false, if◌then◌else◌, List, [], ◌∷◌}
+use Rattle.std.specs.Prelude.{ℕ, Bool, if◌then◌else◌, List, [], ◌∷◌}
 use Rattle.std.specs.List.{list_all}
 use Rattle.glob_pattern.specs.declared.piece.Piece.{Piece}
 use Rattle.glob_pattern.specs.declared.matching.Step.{Step}

@@ -1,15 +1,16 @@
 //! Where the elements of a bracket end, and the bracket itself.
 
 ghost use Rattle.std.specs.Prelude.{◌≡◌, ◌+◌, ◌<◌, ◌≤◌, Bool, length, drop, take, IfSome};
-ghost use Rattle.glob_pattern.specs.Brackets.{name_len, class_len_by, class_len, element_len, spells, later_class, class_named, class_at, close_len, mark_len, body_len, body_of, is_letter};
+ghost use Rattle.glob_pattern.specs.Brackets.{name_len, class_len_by, class_len, element_len, spells, later_class, class_named, class_at, close_len, mark_len, body_len, body_of, is_in_name};
 
 use crate::class::Class;
 use crate::sign::{Sign, from, is_bare, starts};
 
-fn is_letter(sign: Sign) -> bool
-    ensures { result ≡ is_letter sign }
+/// Whether a sign may stand in the name of a class.
+fn is_in_name(sign: Sign) -> bool
+    ensures { result ≡ is_in_name sign }
 {
-    sign.byte.is_ascii_alphanumeric() && is_bare(sign.mark)
+    is_bare(sign.mark) && !(sign.byte == b':' || sign.byte == b']')
 }
 
 fn name_len(signs: &[Sign]) -> usize
@@ -17,7 +18,7 @@ fn name_len(signs: &[Sign]) -> usize
     ensures within { result ≤ length signs.now }
 {
     for (i, sign) in signs.iter().enumerate() {
-        if !is_letter(*sign) {
+        if !is_in_name(*sign) {
             return i;
         }
     }

@@ -26,4 +26,6 @@ pub use pattern::Pattern;
 pub use piece::{Member, Piece};
 
 #[cfg(test)]
+mod path_tests;
+#[cfg(test)]
 mod tests;

@@ -7,7 +7,7 @@ use std::test::Fail;
 
 /// A flagged text of a row: bytes are `Written`; between `'` they are quoted, and an empty pair is a `Quote`; between
 /// `{` and `}` they are `Value`.
-fn flagged(alloc: Global, row: &[u8]) -> Result<Flagged, Memory> {
+pub fn flagged(alloc: Global, row: &[u8]) -> Result<Flagged, Memory> {
     let mut text = Flagged::new(alloc);
     let mut mark = Mark::Written;
     let mut empty = false;
@@ -309,6 +309,14 @@ fn doubtful_places(rt: HostRuntime) -> Result<(), Fail> {
         (b"[[.a.]]", Some(1)),
         (b"[[=a=]]", Some(1)),
         (b"[[:foo:]]", Some(1)),
+        (b"[[:foo_bar:]]", Some(1)),
+        (b"[[:Alpha:]]", Some(1)),
+        (b"[[:alpha1:]]", Some(1)),
+        (b"[![:{\\}:]]", Some(2)),
+        (b"[[:'alpha':]]", None),
+        (b"[[::]]", None),
+        (b"[[:a]b:]", None),
+        (b"[a:]", None),
         (b"[[:alpha:]-z]", Some(1)),
         (b"[a-[:alpha:]]", Some(1)),
         (b"[z-a]", Some(1)),
@@ -324,6 +332,10 @@ fn doubtful_places(rt: HostRuntime) -> Result<(), Fail> {
         (b"''[z-a]", Some(2)),
         (b"[a-a]", None),
         (b"[/]", None),
+        (b"[a'[.'b]", None),
+        (b"[.a.]", None),
+        (b"[]-a]", None),
+        (b"[]-A]", Some(1)),
     ] {
         assert_eq!(rt; doubt(rt.alloc(), row)?, want, "{row:?}");
     }
@@ -336,112 +348,5 @@ fn many_runs_end_at_once(rt: HostRuntime) -> Result<(), Fail> {
     let text = [b'a'; 10_000];
     assert!(rt; !matches(rt.alloc(), b"*a*a*a*a*a*a*a*a*b", text.as_slice())?);
     assert!(rt; matches(rt.alloc(), b"*a*a*a*a*a*a*a*a*a", text.as_slice())?);
-    Ok(())
-}
-
-/// The paths for a field, each with a space behind it; the field `!n` where they are doubtful at n.
-fn paths_for(alloc: Global, row: &[u8], names: &[&[u8]]) -> Result<Text, PatternFault> {
-    let field = flagged(alloc, row)?;
-    let mut list = List::new(alloc);
-    for name in names {
-        list.push(Text::copy(alloc, name)?)?;
-    }
-    let mut shown = Text::new(alloc);
-    match paths(alloc, &field, &list) {
-        Ok(found) => {
-            for path in found.as_slice() {
-                shown.append(path.bytes())?;
-                shown.append(b" ")?;
-            }
-        }
-        Err(PatternFault::Doubtful(at)) => {
-            shown.append([b'!', b'0'.saturating_add(at.min(9) as u8)].as_slice())?;
-        }
-        Err(PatternFault::Memory) => return Err(PatternFault::Memory),
-    }
-    Ok(shown)
-}
-
-#[test]
-fn paths_are_found(rt: HostRuntime) -> Result<(), Fail> {
-    let names = [
-        b".h".as_slice(),
-        b"/r",
-        b"/r/a",
-        b"d",
-        b"d/.b",
-        b"d/a",
-        b"d/c",
-        b"d/s",
-        b"d/s/x",
-        b"d.x",
-        b"d.x/a",
-        b"e",
-    ];
-    for (row, want) in [
-        (b"*".as_slice(), b"d d.x e ".as_slice()),
-        (b".*", b".h "),
-        (b".?", b".h "),
-        (b"d/*", b"d/a d/c d/s "),
-        (b"d/.*", b"d/.b "),
-        (b"d/[ac]", b"d/a d/c "),
-        (b"*/", b"d.x/ d/ "),
-        (b"*/*", b"d.x/a d/a d/c d/s "),
-        (b"*//a", b"d.x//a d//a "),
-        (b"./*", b"./d ./d.x ./e "),
-        (b"./d/?", b"./d/a ./d/c ./d/s "),
-        (b"*/./a", b"d.x/./a d/./a "),
-        (b"*/.", b"d.x/. d/. "),
-        (b"d/*/", b"d/s/ "),
-        (b"d/*//", b"d/s// "),
-        (b"d/*/x", b"d/s/x "),
-    ] {
-        assert_eq!(rt;
-            paths_for(rt.alloc(), row, names.as_slice())?.bytes(),
-            want,
-            "{row:?}"
-        );
-    }
-    Ok(())
-}
-
-#[test]
-fn paths_are_not_found(rt: HostRuntime) -> Result<(), Fail> {
-    let names = [
-        b".h".as_slice(),
-        b"/r",
-        b"/r/a",
-        b"d",
-        b"d/.b",
-        b"d/a",
-        b"d/s",
-        b"d/s/x",
-    ];
-    for (row, want) in [
-        (b"x*".as_slice(), b"".as_slice()),
-        (b"*a", b""),
-        (b"d*a", b""),
-        (b"d?a", b""),
-        (b"d/?b", b""),
-        (b"d/[.]b", b""),
-        (b"[!a]h", b""),
-        (b"*'*'", b""),
-        (b"../*", b""),
-        (b"d/a*/", b""),
-        (b"/*", b"/r "),
-        (b"/r/*", b"/r/a "),
-        (b"//r/*", b"//r/a "),
-        (b"*/*/*", b"d/s/x "),
-        (b"d'/'*", b"d/a d/s "),
-        (b"[/]*", b"!1"),
-        (b"a[b'/'c]*", b"!3"),
-        (b"[a/*", b""),
-    ] {
-        assert_eq!(rt;
-            paths_for(rt.alloc(), row, names.as_slice())?.bytes(),
-            want,
-            "{row:?}"
-        );
-    }
     Ok(())
 }

@@ -38,7 +38,7 @@ fn lists_are_encoded_and_decoded(rt: HostRuntime) -> Result<(), Fail> {
 
 #[test]
 fn texts_of_no_list_are_refused(rt: HostRuntime) -> Result<(), Fail> {
-    let table: [&[u8]; 32] = [
+    let table: [&[u8]; 44] = [
         b"03:a:b",
         b"3:a:",
         b":a",
@@ -71,6 +71,18 @@ fn texts_of_no_list_are_refused(rt: HostRuntime) -> Result<(), Fail> {
         b"18446744073709551615:a",
         b"18446744073709551616:a",
         b"99999999999999999999999999999999999999:a",
+        b"1:a\n",
+        b"3:a:b0",
+        b"3:a:b0:x",
+        b"0:0:1:",
+        b"10:012345678",
+        b"10:0123456789a",
+        b"010:0123456789",
+        b"1_0:0123456789",
+        b"1.0:a",
+        b"1e1:0123456789",
+        b"\x00:",
+        b"1:a\x00",
     ];
     for text in table {
         assert_eq!(rt; decode(rt.alloc(), text)?, None, "{text:?}");

@@ -1,6 +1,7 @@
 //! The world that a run sees, and what both languages' meanings are made of.
 //!
-//! `world` has the types. `specs/Runs` has the combinators of both meanings, `specs/World` what a good world is,
+//! `world` has the types. `outside` is the state of a run: what is open (`description`), the files (`text_map`), and the
+//! calls, which `table` answers. `specs/Runs` has the combinators of both meanings, `specs/World` what a good world is,
 //! `specs/Outside` what is done through descriptors, `specs/Calls` the table of external commands.
 #![tactic(auto)]
 
@@ -8,6 +9,8 @@ mod copies;
 mod description;
 mod outside;
 mod table;
+#[cfg(test)]
+mod tests;
 mod text_map;
 mod world;
 

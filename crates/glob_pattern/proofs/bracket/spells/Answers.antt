@@ -1,4 +1,4 @@
-use Rattle.std.proofs.Common.{sym, ◌∙◌, arith, ap}
+use Rattle.std.proofs.Common.{◌∙◌, arith}
 use Rattle.glob_pattern.specs.Brackets.{spells}
 use Rattle.glob_pattern.proofs.Spelling.{spells_short, spells_end}
 use Rattle.glob_pattern.proofs.bracket.spells.Goals as goal

@@ -1,4 +1,4 @@
-use Rattle.std.proofs.Common.{◌≡◌, true, false, get_or, sym, ◌∙◌, arith}
+use Rattle.std.proofs.Common.{◌≡◌, true, false, get_or, ◌∙◌, arith}
 use Rattle.std.proofs.lemmas.Bool.Decides.{nat_tests}
 use Rattle.span_text.specs.declared.flagged.Mark.TheVariants.{Written}
 use Rattle.glob_pattern.specs.declared.sign.Sign.{Sign}

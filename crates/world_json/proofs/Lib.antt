@@ -1,0 +1,10 @@
+pub mod Items
+pub mod Shapes
+pub mod Judging
+pub mod MapLoops
+pub mod Bytes
+pub mod Ordered
+pub mod Holding
+pub mod GoodWorlds
+pub mod ReadWorlds
+pub mod TextLaws

@@ -1,0 +1,10 @@
+use Rattle.std.proofs.Common.{[], codes, refl}
+use Rattle.serde_json.specs.View.{view}
+use Rattle.world_json.specs.Jobs.{files_of}
+use Rattle.world_json.proofs.Judging.{member_there}
+use Rattle.world_json.proofs.job.files_member.Goals as goal
+
+pub returns-in-Some : goal.returns-in-Some
+returns-in-Some c =
+    let judged = files_of (view c.in-Some.member.now) in
+    member_there [] files_of (codes "files") (view c.args.job.now) _ c.within.result c.in-Some.ensures _ refl (c.within.ensures judged c.files.ensures)

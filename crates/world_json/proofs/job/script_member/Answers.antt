@@ -1,0 +1,18 @@
+use Rattle.std.proofs.Common.{codes, refl}
+use Rattle.serde_json.specs.View.{view}
+use Rattle.shell_world.specs.Texts.{Text}
+use Rattle.world_json.specs.declared.fault.Reason.TheVariants as reason
+use Rattle.world_json.specs.Judging.{Judged, refused}
+use Rattle.world_json.specs.Jobs.{script_of}
+use Rattle.world_json.proofs.Judging.{wanted_there, wanted_missing, refused_is}
+use Rattle.world_json.proofs.job.script_member.Goals as goal
+
+pub returns-in-Some : goal.returns-in-Some
+returns-in-Some c =
+    let judged = script_of c.args.limit (view c.in-Some.member.now) in
+    wanted_there (script_of c.args.limit) (codes "script") (view c.args.job.now) _ c.within.result c.in-Some.ensures _ refl (c.within.ensures judged c.script.ensures)
+
+pub returns-in-None : goal.returns-in-None
+returns-in-None c =
+    let judged : Judged (Text) = refused reason.Missing in
+    wanted_missing (script_of c.args.limit) (codes "script") (view c.args.job.now) c.within-in-None.result c.in-None.ensures (c.within-in-None.ensures judged (refused_is judged reason.Missing _ c.refused.ensures refl))
