@@ -10,10 +10,10 @@ use Rattle.sh_tree.proofs.Back.{script_back}
 use Rattle.bash2sh.specs.declared.language.Language.TheVariants.{Bash}
 use Rattle.bash2sh.specs.Lower.{lower_command, lower_chain, lower}
 use Rattle.bash2sh.specs.Model.{◌>>◌, line_at, put, lines_at, script_from}
-use Rattle.bash2sh.specs.Translation.{IsTranslated}
+use Rattle.bash2sh.specs.Translation.{IsTranslated, IsRefused}
 use Rattle.bash2sh.specs.Views.{Cut}
 use Rattle.bash2sh.specs.LineTexts.{text_from, PutsLine, GivesText}
-use Rattle.bash2sh.proofs.LineLaws.{taken_form, line_sound, lines_sound}
+use Rattle.bash2sh.proofs.LineLaws.{taken_form, line_sound, lines_sound, is_refused, is_placed}
 use Rattle.bash2sh.proofs.Printable.{command_prints, reads_printable}
 use Rattle.bash2sh.proofs.Rest.{same, regroup, by_first}
 use Rattle.bash2sh.proofs.Translating.{is_translated}
@@ -23,13 +23,13 @@ line_prints line c e = let h = line_sound Bash line (Some c) e in command_prints
 
 -- ---- one text behind another
 
-grouped : (a x y : List ℕ) → a ++ 10 ∷ (x ++ y) ≡ (a ++ 10 ∷ x) ++ y
+grouped : (a x y : List ℕ) → a ++ 10 ∷ [] ++ (x ++ y) ≡ (a ++ 10 ∷ [] ++ x) ++ y
 grouped a x y = simp append_assoc
 
 texts_behind : (cs ds : List Command) → text_from (cs ++ ds) ≡ text_from cs ++ text_from ds
 texts_behind [] ds = refl
 texts_behind (c ∷ cs) ds =
-    ap (λ (t : List ℕ). chain_text (lower_chain (alone c)) ++ 10 ∷ t) (texts_behind cs ds) ∙ grouped (chain_text (lower_chain (alone c))) (text_from cs) (text_from ds)
+    ap (λ (t : List ℕ). chain_text (lower_chain (alone c)) ++ 10 ∷ [] ++ t) (texts_behind cs ds) ∙ grouped (chain_text (lower_chain (alone c))) (text_from cs) (text_from ds)
 
 -- ---- what the loop keeps
 
@@ -87,3 +87,6 @@ text_translated text written h =
     let s = script_from h.0 in
     let found = lines_sound Bash (slice_split is_newline text) 0 h.0 h.1 in
     subst (λ (w : List ℕ). IsTranslated text w) (sym h.2) (is_translated text s (lower s) found refl (script_back (lower s) (reads_printable Bash text s found)))
+
+pub text_refused : (text : List ℕ) (place : ℕ) → lines_at Bash 0 (slice_split is_newline text) ≡ Err place → IsRefused Bash text place
+text_refused text place e = record { no_script = is_refused Bash text place e; first = is_placed Bash text place e }
