@@ -4,6 +4,7 @@ pub mod Ending
 pub mod FormLaws
 pub mod Inputs
 mod LineLaws
+pub mod LineTexts
 pub mod Loops
 mod Lowered
 mod Meaning

@@ -44,7 +44,7 @@ module _ (language : Language) where
     pub read : lines_at language 0 (slice_split is_newline text) ≡ (lines_at language (length text - length rest) (slice_split is_newline rest) >> λ cs. Ok (done ++ cs))
     pub fits : length rest ≤ length text
 
-  same : (r : Result (List Command) ℕ) → r ≡ (r >> λ cs. Ok ([] ++ cs))
+  pub same : (r : Result (List Command) ℕ) → r ≡ (r >> λ cs. Ok ([] ++ cs))
   same (Ok cs) = refl
   same (Err e) = refl
 
@@ -54,7 +54,7 @@ module _ (language : Language) where
       record { done = []; is = refl; read = rw none (same (lines_at language 0 (slice_split is_newline text))); fits = omega arith }
 
   -- what stands behind a line
-  regroup : (done : List Command) (o : Option Command) (r : Result (List Command) ℕ) → ((r >> λ cs. Ok (put o cs)) >> λ cs. Ok (done ++ cs)) ≡ (r >> λ cs. Ok ((done ++ put o []) ++ cs))
+  pub regroup : (done : List Command) (o : Option Command) (r : Result (List Command) ℕ) → ((r >> λ cs. Ok (put o cs)) >> λ cs. Ok (done ++ cs)) ≡ (r >> λ cs. Ok ((done ++ put o []) ++ cs))
   regroup done None (Ok cs) = ap (λ (d : List Command). Ok (d ++ cs)) (sym (append-nil done))
   regroup done (Some c) (Ok cs) = ap (λ (d : List Command). Ok d) (simp append_assoc)
   regroup done o (Err e) = refl
@@ -66,7 +66,7 @@ module _ (language : Language) where
       ap items_of p.1 ∙ e ∙ ap (λ (s : Script). behind s (items_of (p.0 ∷ []))) is ∙ ap (behind (script_from done)) p.2 ∙ sym (script_behind done (c ∷ []))
 
   -- the lines from this one on
-  by_first : (at : ℕ) (line : List ℕ) (ls : List (List ℕ)) (o : Option (Option Command)) → line_at language line ≡ o → lines_at language at (line ∷ ls) ≡ by_line at line o (lines_at language (at + length line + 1) ls)
+  pub by_first : (at : ℕ) (line : List ℕ) (ls : List (List ℕ)) (o : Option (Option Command)) → line_at language line ≡ o → lines_at language at (line ∷ ls) ≡ by_line at line o (lines_at language (at + length line + 1) ls)
   unfolding lines_at
   by_first at line ls o e = ap (λ (x : Option (Option Command)). by_line at line x (lines_at language (at + length line + 1) ls)) e
 

@@ -1,7 +1,9 @@
 pub mod Answers
 pub mod Form
+pub mod Gathered
 pub mod Input
 pub mod Jobs
+pub mod LineTexts
 pub mod Lower
 pub mod Model
 pub mod Program

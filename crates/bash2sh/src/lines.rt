@@ -21,7 +21,7 @@ use span_text::{Class, List, Memory, Span, all_in, run, run_len};
 use std::alloc::Global;
 
 /// The first line, and what stands behind its newline.
-fn first_line(text: &[u8]) -> (&[u8], Option<&[u8]>)
+pub fn first_line(text: &[u8]) -> (&[u8], Option<&[u8]>)
     ensures { Cut text.now result.0.now result.1 }
 {
     match memchr(b'\n', text) {
@@ -75,7 +75,7 @@ fn front_of(
 
 /// The command of a line that ends at the offset `end` of its text; nothing where the line is blank or a comment.
 #[tactic(auto, unfolding(crate::specs::Model::line_at))]
-fn line_of(
+pub fn line_of(
     alloc: Global,
     language: Language,
     line: &[u8],
@@ -88,7 +88,7 @@ fn line_of(
 }
 
 /// A command by itself, as a complete command of a script.
-fn item(alloc: Global, kind: CommandKind, span: Span) -> Result<Item, Memory>
+pub fn item(alloc: Global, kind: CommandKind, span: Span) -> Result<Item, Memory>
     ensures { IfOk result (λ i. items_of (i ∷ []) ≡ shape.item (alone (command_of kind)) shape.no_item) }
 {
     let mut stages = List::new(alloc);

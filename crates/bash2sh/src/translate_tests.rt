@@ -2,7 +2,8 @@
 
 ghost use Rattle.std.specs.Prelude.{◌≤◌};
 
-use crate::program::{Status, bash2sh};
+use crate::program::bash2sh;
+use crate::status::Status;
 use span_text::{
     Failed, List, MemorySink, MemorySource, Source, StandardError, SureSink, SureSource, Text,
 };

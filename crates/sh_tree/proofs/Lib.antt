@@ -1,4 +1,4 @@
-mod Back
+pub mod Back
 pub mod Fits
 pub mod Texts
 pub mod Views
