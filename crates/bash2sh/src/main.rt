@@ -12,6 +12,8 @@ mod fault;
 mod form;
 mod gather;
 mod input;
+#[cfg(test)]
+mod job_tests;
 mod jobs;
 mod language;
 mod line_texts;
