@@ -1,19 +1,19 @@
 -- A command that is read is spelled so, and what is spelled so is read.
-use Rattle.std.proofs.Common.{◌≡◌, ℕ, zero, suc, ◌+◌, ◌<◌, ◌≤◌, Bool, true, false, cond, eqb, List, [], ◌∷◌, ◌++◌, length, take, drop, Option, Some, None, refl, sym, ap, subst, ◌∙◌, append_assoc, ◌⊎◌, inl, inr, arith}
-use Rattle.std.specs.List.{prefix_len, list_all}
+use Rattle.std.proofs.Common.{◌≡◌, ℕ, zero, suc, ◌<◌, Bool, true, false, cond, eqb, List, [], ◌∷◌, ◌++◌, length, Option, Some, None, refl, sym, ap, subst, ◌∙◌, append_assoc, inl, inr, arith}
+use Rattle.std.specs.List.{list_all}
 use Rattle.std.proofs.lemmas.Bool.{eqb-true}
 use Rattle.std.proofs.lemmas.List.{nil_from_length, append-nil}
 use Rattle.std.proofs.lemmas.Bool.Decides.{nat_tests}
 use Rattle.span_text.specs.Names.{begins_name, continues_name}
 use Rattle.span_text.specs.Scanning.{starts, Each, Run, is_blank, is_plain_byte, ends_word}
-use Rattle.span_text.proofs.Runs.{Run-front, Run-is, Run-length, Run-shorter}
-use Rattle.span_text.proofs.Bytes.{apart, first_is_name, marks, Each-append, Each-to}
-use Rattle.bash_tree.specs.Shape.{Part, plain, exact, double, param, Parts, no_part, part, Words, no_word, word, Value, no_value, value, Assigns, no_assign, assign, Command, simple}
+use Rattle.span_text.proofs.Runs.{Run-front, Run-is, Run-length}
+use Rattle.span_text.proofs.Bytes.{marks, Each-append, Each-to}
+use Rattle.bash_tree.specs.Shape.{Part, plain, exact, double, param, Parts, no_part, part, Words, no_word, word, Value, no_value, value, no_assign, assign, Command, simple}
 use Rattle.bash_tree.specs.View.{parts_of}
 use Rattle.bash2sh.specs.Spelling.{PartAt, PartsAt, WordAt, WordsAt, ValueAt, sign, CommandAt}
-use Rattle.bash2sh.specs.Model.{◌>>=◌, run_at, part_at, parts_at, word_at, words_at, words_from, value_at, plus_at, sign_at, named, words_command, assign_command, by_sign, command_at}
+use Rattle.bash2sh.specs.Model.{◌>>=◌, run_at, word_at, words_at, words_from, value_at, plus_at, sign_at, named, words_command, assign_command, by_sign, command_at}
 use Rattle.bash2sh.proofs.Tools.{chosen, some_is, bind_some, each_of, test_of}
-use Rattle.bash2sh.proofs.WordLaws.{list_of, parts_of_list, parts_sound, parts_complete, word_shorter, part_goes_on}
+use Rattle.bash2sh.proofs.WordLaws.{list_of, parts_of_list, parts_sound, parts_complete, word_shorter}
 
 -- ---- ends of lines
 

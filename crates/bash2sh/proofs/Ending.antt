@@ -1,5 +1,5 @@
 -- How a run ends whose source gave its bytes.
-use Rattle.std.proofs.Common.{◌≡◌, ℕ, List, Option, Some, None, Result, Ok, Err, sym, subst}
+use Rattle.std.proofs.Common.{◌≡◌, ℕ, List, Option, Some, Ok, subst}
 use Rattle.bash2sh.specs.declared.asked.Asked.{Asked}
 use Rattle.bash2sh.specs.declared.asked.Asked.TheVariants.{Translate, Run}
 use Rattle.bash2sh.specs.declared.status.Status.{Status}

@@ -1,16 +1,16 @@
 -- The lines that are read are spelled so, and what is spelled so is read; the first line that isn't taken has its place.
-use Rattle.std.proofs.Common.{◌≡◌, ℕ, zero, suc, ◌+◌, ◌<◌, ◌≤◌, Bool, true, false, not, ◌&&◌, cond, eqb, List, [], ◌∷◌, ◌++◌, length, take, drop, Option, Some, None, Result, Ok, Err, refl, sym, ap, subst, ◌∙◌, append_assoc, ◌⊎◌, inl, inr, arith}
-use Rattle.std.specs.List.{prefix_len, list_all, slice_split}
+use Rattle.std.proofs.Common.{◌≡◌, ℕ, ◌+◌, Bool, true, false, not, ◌&&◌, cond, eqb, List, [], ◌∷◌, ◌++◌, length, Option, Some, None, Result, Ok, Err, refl, sym, ap, subst, ◌∙◌, ◌⊎◌, inl, inr, arith}
+use Rattle.std.specs.List.{list_all, slice_split}
 use Rattle.std.proofs.lemmas.Bool.{eqb-true}
-use Rattle.span_text.specs.Names.{begins_name, continues_name}
+use Rattle.span_text.specs.Names.{begins_name}
 use Rattle.span_text.specs.Scanning.{starts, Each, Run, is_newline, is_blank, is_plain_byte, is_comment_byte, ends_word}
 use Rattle.span_text.proofs.Runs.{Run-front, Run-is}
 use Rattle.span_text.proofs.Bytes.{marks}
-use Rattle.bash_tree.specs.Shape.{Part, plain, exact, double, param, Parts, no_part, part, Words, no_word, word, Value, no_value, value, Assigns, no_assign, assign, Command, simple, Script, no_item, item, background_item, alone}
+use Rattle.bash_tree.specs.Shape.{Part, plain, exact, double, param, Parts, no_part, part, no_word, word, no_assign, assign, Command, simple, Script, no_item, item, background_item, alone}
 use Rattle.bash2sh.specs.declared.language.Language.{Language}
 use Rattle.bash2sh.specs.declared.language.Language.TheVariants.{Bash, Sh}
 use Rattle.bash2sh.specs.Form.{command_form, command_appends, takes, script_form}
-use Rattle.bash2sh.specs.Spelling.{PartAt, PartsAt, WordAt, CommandAt, IsIdle, IsCommandLine, LinesAt, Reads, IsBadLine, total, IsFirstBad}
+use Rattle.bash2sh.specs.Spelling.{PartAt, WordAt, CommandAt, IsIdle, IsCommandLine, LinesAt, Reads, IsBadLine, total, IsFirstBad}
 use Rattle.bash2sh.specs.Model.{◌>>=◌, ◌>>◌, run_at, command_at, of_form, front_at, line_at, put, by_line, lines_at, script_from}
 use Rattle.bash2sh.proofs.Tools.{chosen, some_is, bind_some, bind_ok, ok_is, each_of, test_of}
 use Rattle.bash2sh.proofs.CommandLaws.{command_sound, command_complete}

@@ -1,14 +1,14 @@
 -- Reading one after the other, as a loop does.
-use Rattle.std.proofs.Common.{◌≡◌, ℕ, zero, suc, ◌+◌, ◌-◌, ◌<◌, ◌≤◌, Bool, true, false, cond, eqb, List, [], ◌∷◌, ◌++◌, length, Option, Some, None, refl, sym, ap, ◌∙◌, append_assoc, arith}
+use Rattle.std.proofs.Common.{◌≡◌, ℕ, suc, ◌+◌, ◌-◌, ◌<◌, ◌≤◌, Bool, true, false, cond, eqb, List, [], ◌∷◌, ◌++◌, length, Option, Some, None, refl, sym, ap, ◌∙◌, append_assoc, arith}
 use Rattle.std.proofs.lemmas.List.{append-nil, length-append}
-use Rattle.span_text.specs.Scanning.{starts, Run, is_blank, ends_word}
+use Rattle.span_text.specs.Scanning.{starts, is_blank, ends_word}
 use Rattle.span_text.proofs.Runs.{Run-front, Run-length}
 use Rattle.bash_tree.specs.Shape.{Part}
 use Rattle.bash2sh.specs.declared.fault.Stop.{Stop}
 use Rattle.bash2sh.specs.declared.fault.Stop.TheVariants as stop
 use Rattle.bash2sh.specs.Model.{◌>>=◌, Fails, run_at, quoted_part_at, is_quote, quoted_parts_at, part_at, parts_at, word_at, words_at}
 use Rattle.bash2sh.proofs.Tools.{with_front, regroup}
-use Rattle.bash2sh.proofs.WordLaws.{quoted_shorter, part_sound, parts_sound, part_shorter, word_shorter}
+use Rattle.bash2sh.proofs.WordLaws.{part_sound, parts_sound, part_shorter, word_shorter}
 use Rattle.bash2sh.proofs.CommandLaws.{goes_on}
 
 -- items up to a stop, at most so many

@@ -1,14 +1,13 @@
 -- Each construct and what it is lowered to do the same, from states that agree.
-use Rattle.std.proofs.Common.{◌≡◌, ℕ, zero, suc, ◌+◌, ◌<◌, ◌≤◌, Bool, true, false, not, ◌&&◌, ◌||◌, List, [], ◌∷◌, ◌++◌, Option, Some, None, refl, sym, ap, ◌∙◌, subst, append_assoc, arith}
+use Rattle.std.proofs.Common.{◌≡◌, ℕ, ◌≤◌, Bool, true, false, not, ◌&&◌, ◌||◌, List, [], ◌∷◌, ◌++◌, refl, sym, ap, ◌∙◌, subst}
 use Rattle.std.proofs.lemmas.List.{append-nil}
 use Rattle.span_text.specs.KnownNames.{is_known_command}
 use Rattle.span_text.specs.Names.{is_reserved}
 use Rattle.shell_world.specs.declared.world.World.{World}
 use Rattle.shell_world.specs.Texts.{Text}
-use Rattle.shell_world.specs.Outside.{Trace, Outside, Fds}
 use Rattle.shell_world.specs.Calls.{Called, called}
 use Rattle.shell_world.specs.Runs.{Signal, Normal, Exits, Try, Value, Fails, St, Res, Ends, Do, after, if_normal, if_value, with_value, choose, with_own, now, gives, unbuilt, Calls}
-use Rattle.shell_world.proofs.Simulate.{Post, Run, Matches, sim_after, sim_ends, same_run, ends_there, after_assoc}
+use Rattle.shell_world.proofs.Simulate.{Post, Matches, sim_after, sim_ends, same_run, ends_there, after_assoc}
 use Rattle.bash_tree.specs.Shape as shape
 use Rattle.bash_tree.specs.Shape.{plain, exact, double, param, no_part, part, no_word, word, no_value, value, no_assign, assign, simple, no_stage, stage, pipeline, no_link, and_link, or_link, chain, no_item, item, background_item}
 use Rattle.bash_meaning.specs.Variables as bash_vars
@@ -17,7 +16,7 @@ use Rattle.sh_tree.specs.Shape as sh_shape
 use Rattle.sh_meaning.specs.Variables as sh_vars
 use Rattle.sh_meaning.specs.Meaning as sh
 use Rattle.bash2sh.specs.Form.{is_free_name, parts_form, quoted_form, part_form, word_form, words_form, value_form, is_plain, is_literal_part, is_literal, plain_text, texts_of, literal_part_text, literal_text, is_free_command, name_form, command_form, stages_form, pipeline_form, chain_form, script_form}
-use Rattle.bash2sh.specs.Lower.{lower_part, lower_parts, lower_words, quoted_name, parts_of_value, plain_value, lower_value, lower_assigns, lower_command, lower_stages, lower_pipeline, lower_links, lower_chain, lower}
+use Rattle.bash2sh.specs.Lower.{lower_part, lower_parts, lower_words, parts_of_value, plain_value, lower_value, lower_command, lower_stages, lower_pipeline, lower_chain, lower}
 use Rattle.bash2sh.proofs.Variables.{flattened, text_same, assigned_same, environment_same}
 
 -- ---- tests

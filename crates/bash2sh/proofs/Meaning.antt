@@ -1,20 +1,19 @@
 -- What a script of this form is lowered to has the same meaning.
-use Rattle.std.proofs.Common.{◌≡◌, ℕ, zero, suc, ◌+◌, ◌<◌, ◌≤◌, Bool, true, List, [], ◌∷◌, ◌++◌, refl, sym, ap, ◌∙◌, subst, arith, codes}
+use Rattle.std.proofs.Common.{◌≡◌, ℕ, true, refl, ap, ◌∙◌, arith, codes}
 use Rattle.shell_world.specs.declared.world.World.{World}
 use Rattle.shell_world.specs.Texts.{Text, Map}
 use Rattle.shell_world.specs.Outside.{Trace}
-use Rattle.shell_world.specs.Runs.{Signal, St, Res, Ends, GoesOn, Unspecified}
+use Rattle.shell_world.specs.Runs.{Signal, Res, Ends, GoesOn, Unspecified}
 use Rattle.shell_world.specs.World.{start_ifs}
 use Rattle.shell_world.specs.declared.world.End.TheVariants as end
 use Rattle.shell_world.specs.Reports.{report}
-use Rattle.shell_world.specs.Ends.{Outcome, Ended, Going, Unknown, outcome}
+use Rattle.shell_world.specs.Ends.{Outcome, Ended, outcome}
 use Rattle.shell_world.proofs.Monotone.{Later}
 use Rattle.shell_world.proofs.Simulate.{Run, Matches}
 use Rattle.shell_world.proofs.Between.{OutLater, OutMatches, Grows, ends, ends_only, goes_on, goes_on_only, specified}
 use Rattle.bash_tree.specs.Shape.{Script}
 use Rattle.bash_meaning.specs.Meaning as bash
 use Rattle.bash_meaning.proofs.Bounds as bash_bounds
-use Rattle.sh_tree.specs.Shape as sh_shape
 use Rattle.sh_meaning.specs.Meaning as sh
 use Rattle.sh_meaning.proofs.Bounds as sh_bounds
 use Rattle.bash2sh.specs.Form.{script_form}

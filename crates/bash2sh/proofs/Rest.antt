@@ -1,5 +1,5 @@
 -- The loop over the lines of a script.
-use Rattle.std.proofs.Common.{◌≡◌, ℕ, zero, suc, ◌+◌, ◌-◌, ◌<◌, ◌≤◌, List, [], ◌∷◌, ◌++◌, length, Option, Some, None, Result, Ok, Err, refl, sym, ap, subst, ◌∙◌, append_assoc, arith, Bor}
+use Rattle.std.proofs.Common.{◌≡◌, ℕ, suc, ◌+◌, ◌-◌, ◌<◌, ◌≤◌, List, [], ◌∷◌, ◌++◌, length, Option, Some, None, Result, Ok, Err, refl, sym, ap, subst, ◌∙◌, append_assoc, arith, Bor}
 use Rattle.std.proofs.lemmas.List.{append-nil, length-append}
 use Rattle.std.proofs.lemmas.List.Folds.{length-prefix_len}
 use Rattle.std.specs.List.{slice_split, prefix_len}
@@ -9,7 +9,7 @@ use Rattle.bash_tree.specs.Shape.{Command, Chain, Script, no_item, item, backgro
 use Rattle.bash_tree.specs.declared.tree.Item.{Item}
 use Rattle.bash_tree.specs.View.{items_of, item_of, view_chain}
 use Rattle.bash2sh.specs.declared.language.Language.{Language}
-use Rattle.bash2sh.specs.Model.{◌>>◌, run_at, line_at, put, by_line, lines_at, script_from}
+use Rattle.bash2sh.specs.Model.{◌>>◌, line_at, put, by_line, lines_at, script_from}
 use Rattle.bash2sh.specs.Spelling.{LinesAt, Reads, IsFirstBad}
 use Rattle.bash2sh.specs.Views.{Cut, Pushed, GivesItems, IfNotYet}
 use Rattle.bash2sh.specs.declared.fault.ReadFault.{ReadFault}

@@ -1,5 +1,5 @@
 -- Small tools on tests, options and results.
-use Rattle.std.proofs.Common.{◌≡◌, ℕ, Bool, true, false, cond, ◌&&◌, List, [], ◌∷◌, ◌++◌, Option, Some, None, Result, Ok, Err, refl, sym, ap, subst, ◌∙◌, ◌⊎◌, inl, inr, append_assoc}
+use Rattle.std.proofs.Common.{◌≡◌, ℕ, Bool, true, false, cond, ◌&&◌, List, [], ◌∷◌, ◌++◌, Option, Some, None, Result, Ok, Err, refl, ap, ◌⊎◌, inl, inr, append_assoc}
 use Rattle.std.specs.List.{list_all}
 use Rattle.span_text.specs.Scanning.{Each}
 use Rattle.bash2sh.specs.Model.{◌>>=◌, ◌>>◌}

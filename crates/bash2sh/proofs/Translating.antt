@@ -1,8 +1,8 @@
 -- A script that was read and lowered is translated.
-use Rattle.std.proofs.Common.{◌≡◌, true, List, ℕ, sym, ap, subst, ◌∙◌, length, suc, ◌+◌, ◌≤◌, ◌<◌, Bool, false, [], ◌∷◌, ◌++◌, refl, arith}
+use Rattle.std.proofs.Common.{◌≡◌, true, List, ℕ, sym, ap, subst, ◌∙◌, length, suc, ◌+◌, ◌≤◌, Bool, false, [], ◌∷◌, ◌++◌, refl, arith}
 use Rattle.std.specs.List.{slice_split, onto_first}
 use Rattle.std.proofs.lemmas.List.Splits.{slice_split-cons_yes, slice_split-cons_no}
-use Rattle.span_text.specs.Scanning.{is_newline, is_blank, Run}
+use Rattle.span_text.specs.Scanning.{is_newline, is_blank}
 use Rattle.span_text.proofs.Runs.{Run-length}
 use Rattle.bash_tree.specs.Shape.{Script as BashScript}
 use Rattle.sh_tree.specs.Shape.{Script as ShScript}

@@ -1,11 +1,11 @@
 -- The one scope of these scripts and sh's variables hold the same.
-use Rattle.std.proofs.Common.{◌≡◌, ℕ, Bool, true, false, List, [], ◌∷◌, ◌++◌, Option, Some, None, refl, sym, ap, ◌∙◌, subst}
+use Rattle.std.proofs.Common.{◌≡◌, Bool, true, false, List, [], ◌∷◌, Option, Some, None, refl, ap, ◌∙◌}
 use Rattle.std.specs.declared.cmp.Ordering.{Ordering}
 use Rattle.std.specs.declared.cmp.Ordering.TheVariants.{Less, Equal, Greater}
 use Rattle.std.specs.Ordering.{eq_by_cmp}
 use Rattle.std.proofs.Common.{cond}
 use Rattle.std.specs.FinMap.Entries.{by_order}
-use Rattle.shell_world.specs.Texts.{Text, Map, text_cmp, lookup, insert}
+use Rattle.shell_world.specs.Texts.{Text, text_cmp, lookup, insert}
 use Rattle.bash_meaning.specs.Variables as bash
 use Rattle.bash_meaning.specs.declared.cell.Cell.{Cell}
 use Rattle.bash_meaning.specs.declared.cell.Value.{Value}

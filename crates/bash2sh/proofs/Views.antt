@@ -2,7 +2,6 @@
 use Rattle.std.proofs.Common.{◌≡◌, ℕ, List, [], ◌∷◌, ◌++◌, false, eqb, length, Some, refl, ◌∙◌, ap}
 use Rattle.std.specs.Prelude.{map}
 use Rattle.bash_tree.specs.declared.tree.Part.{Part}
-use Rattle.bash_tree.specs.declared.tree.PartKind.{PartKind}
 use Rattle.bash_tree.specs.declared.tree.PartKind.TheVariants.{Plain, Exact, Double, Param}
 use Rattle.bash_tree.specs.declared.tree.Param.{Param as Parameter}
 use Rattle.bash_tree.specs.declared.tree.ParamOp.{ParamOp}
@@ -10,7 +9,7 @@ use Rattle.bash_tree.specs.Shape as shape
 use Rattle.bash_tree.specs.declared.tree.Word.{Word}
 use Rattle.bash_tree.specs.View.{view_part, view_kind, parts_of, name_of_param, view_word, words_of}
 use Rattle.bash2sh.specs.Model.{words_from, named}
-use Rattle.bash2sh.specs.Views.{parts_seen, words_seen}
+use Rattle.bash2sh.specs.Views.{words_seen}
 use Rattle.bash_tree.proofs.Views.{part_is, plain_is, exact_is, double_is, param_is}
 
 pub plain_seen : (p : Part) (t : List ℕ) → p.kind ≡ Plain t → view_part p ≡ shape.plain t

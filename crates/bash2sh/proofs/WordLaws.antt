@@ -1,15 +1,14 @@
 -- A word that is read is spelled so, and what is spelled so is read.
-use Rattle.std.proofs.Common.{◌≡◌, ℕ, zero, suc, ◌+◌, ◌<◌, ◌≤◌, Bool, true, false, cond, eqb, List, [], ◌∷◌, ◌++◌, length, take, drop, Option, Some, None, refl, sym, ap, subst, ◌∙◌, ◌⊎◌, inl, inr, arith}
-use Rattle.std.specs.List.{prefix_len}
+use Rattle.std.proofs.Common.{◌≡◌, ℕ, zero, suc, ◌<◌, ◌≤◌, true, false, cond, eqb, List, [], ◌∷◌, length, Some, None, refl, sym, ap, subst, ◌∙◌, inl, inr, arith}
 use Rattle.std.proofs.lemmas.Bool.{eqb-true}
 use Rattle.span_text.specs.Names.{begins_name, continues_name}
-use Rattle.span_text.specs.Scanning.{starts, Each, Run, is_blank, is_plain_byte, is_exact_byte, is_quoted_byte, ends_word}
+use Rattle.span_text.specs.Scanning.{starts, Run, is_plain_byte, is_exact_byte, is_quoted_byte, ends_word}
 use Rattle.span_text.proofs.Runs.{Run-front, Run-is, Run-length, Run-shorter}
 use Rattle.span_text.proofs.Bytes.{apart, first_is_name, plain_no_blank, marks}
 use Rattle.bash_tree.specs.Shape.{Part, plain, exact, double, param, Parts, no_part, part}
 use Rattle.bash_tree.specs.View.{parts_of}
 use Rattle.bash2sh.specs.Spelling.{QuotedPartAt, QuotedPartsAt, PartAt, PartsAt, WordAt}
-use Rattle.bash2sh.specs.Model.{◌>>=◌, run_at, param_at, quoted_run_at, quoted_part_at, is_quote, quoted_parts_at, behind, closed_by, exact_at, double_at, plain_at, part_at, parts_at, word_at}
+use Rattle.bash2sh.specs.Model.{◌>>=◌, run_at, param_at, quoted_run_at, quoted_part_at, is_quote, quoted_parts_at, behind, closed_by, exact_at, double_at, plain_at, part_at, parts_at}
 use Rattle.bash2sh.proofs.Tools.{chosen, some_is, bind_some}
 
 -- the parts as a list again

@@ -1,10 +1,10 @@
 -- The scripts that are taken today: each command is one assignment, or a literal name that no shell knows with its arguments.
-use Rattle.std.specs.Prelude.{ℕ, Bool, true, false, not, ◌&&◌, ◌||◌, List, [], ◌∷◌, ◌++◌}
+use Rattle.std.specs.Prelude.{ℕ, Bool, true, false, not, ◌&&◌, ◌||◌, List, [], ◌++◌}
 use Rattle.bash2sh.specs.declared.language.Language.{Language}
 use Rattle.bash2sh.specs.declared.language.Language.TheVariants.{Bash, Sh}
 use Rattle.span_text.specs.Names.{is_reserved}
 use Rattle.span_text.specs.KnownNames.{is_known_command, is_special_name}
-use Rattle.bash_tree.specs.Shape.{Part, plain, exact, double, param, Parts, no_part, part, Words, no_word, word, Value, no_value, value, Assigns, no_assign, assign, Command, simple, Stages, no_stage, stage, Pipeline, pipeline, Links, no_link, and_link, or_link, Chain, chain, Script, no_item, item, background_item}
+use Rattle.bash_tree.specs.Shape.{Part, plain, exact, double, param, Parts, no_part, part, Words, no_word, word, Value, no_value, value, Assigns, no_assign, assign, Command, simple, Stages, no_stage, stage, Pipeline, pipeline, no_link, and_link, or_link, Chain, chain, Script, no_item, item, background_item}
 
 -- a variable that no shell sets by itself, and that isn't the translation's own
 abbrev pub is_free_name : List ℕ → Bool

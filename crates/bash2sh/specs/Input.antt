@@ -1,5 +1,5 @@
 -- What one read puts behind a text.
-use Rattle.std.specs.Prelude.{◌≡◌, ℕ, ◌≤◌, ◌<◌, List, [], ◌++◌, length, Option, Some, None, Result, Ok, Err}
+use Rattle.std.specs.Prelude.{◌≡◌, ℕ, ◌≤◌, ◌<◌, List, ◌++◌, length, Option, Result, Ok, Err}
 use Rattle.span_text.specs.Streams.{Rose}
 use Rattle.bash2sh.specs.declared.input.InputFault.{InputFault}
 use Rattle.bash2sh.specs.declared.input.InputFault.TheVariants as input

@@ -1,5 +1,5 @@
 -- The sh text of commands, as it is made line by line.
-use Rattle.std.specs.Prelude.{◌≡◌, ℕ, List, [], ◌∷◌, ◌++◌, Option, Some, None, Result, Ok, Err}
+use Rattle.std.specs.Prelude.{◌≡◌, ℕ, List, [], ◌++◌, Option, Some, None, Result, Ok, Err}
 use Rattle.bash_tree.specs.Shape.{Command}
 use Rattle.sh_tree.specs.Printing.{script_text}
 use Rattle.bash2sh.specs.Lower.{lower}

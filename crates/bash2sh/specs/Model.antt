@@ -1,9 +1,9 @@
 -- Reading from left to right, as the code does it.
-use Rattle.std.specs.Prelude.{◌≡◌, ℕ, zero, suc, ◌+◌, Bool, true, false, List, [], ◌∷◌, ◌++◌, length, take, drop, map, Option, Some, None, Result, Ok, Err, ◌==◌, if◌then◌else◌}
+use Rattle.std.specs.Prelude.{◌≡◌, ℕ, zero, suc, ◌+◌, Bool, true, false, List, [], ◌∷◌, length, take, drop, Option, Some, None, Result, Ok, Err, ◌==◌, if◌then◌else◌}
 use Rattle.std.specs.List.{prefix_len, list_all}
 use Rattle.span_text.specs.Names.{begins_name, continues_name}
 use Rattle.span_text.specs.Scanning.{starts, is_blank, is_plain_byte, is_exact_byte, is_quoted_byte, is_comment_byte, ends_word}
-use Rattle.bash_tree.specs.Shape.{Part, plain, exact, double, param, Parts, no_part, part, Words, no_word, word, Value, no_value, value, Assigns, no_assign, assign, Command, simple, Script, no_item, item, alone}
+use Rattle.bash_tree.specs.Shape.{Part, plain, exact, double, param, Words, no_word, word, Value, no_value, value, no_assign, assign, Command, simple, Script, no_item, item, alone}
 use Rattle.bash_tree.specs.View.{parts_of}
 use Rattle.bash2sh.specs.declared.fault.Stop.{Stop}
 use Rattle.bash2sh.specs.declared.fault.Stop.TheVariants as stop

@@ -4,7 +4,7 @@ use Rattle.shell_world.specs.declared.world.World.{World}
 use Rattle.shell_world.specs.Texts.{Text, Map}
 use Rattle.shell_world.specs.Outside.{Trace}
 use Rattle.shell_world.specs.World.{IsGood}
-use Rattle.shell_world.specs.Ends.{Outcome, Ended, Going, Unknown, trace_of, IsPrefix}
+use Rattle.shell_world.specs.Ends.{Ended, Going, Unknown, trace_of, IsPrefix}
 use Rattle.bash_tree.specs.Shape.{Script as BashScript}
 use Rattle.bash_meaning.specs.Meaning.{run as bash_run}
 use Rattle.sh_tree.specs.Shape.{Script as ShScript}

@@ -3,7 +3,7 @@ use Rattle.std.specs.Prelude.{◌≡◌, ℕ, ◌+◌, Bool, true, false, List, 
 use Rattle.std.specs.List.{slice_split}
 use Rattle.span_text.specs.Names.{begins_name, continues_name}
 use Rattle.span_text.specs.Scanning.{starts, Each, Run, is_newline, is_blank, is_plain_byte, is_exact_byte, is_quoted_byte, is_comment_byte, ends_word}
-use Rattle.bash_tree.specs.Shape.{Part, plain, exact, double, param, Parts, no_part, part, Words, no_word, word, Value, no_value, value, Assigns, no_assign, assign, Command, simple, Script, no_item, item, background_item, alone}
+use Rattle.bash_tree.specs.Shape.{Part, plain, exact, double, param, Parts, no_part, part, Words, no_word, word, Value, no_value, value, no_assign, assign, Command, simple, Script, no_item, item, background_item, alone}
 use Rattle.bash2sh.specs.declared.language.Language.{Language}
 use Rattle.bash2sh.specs.Form.{takes}
 

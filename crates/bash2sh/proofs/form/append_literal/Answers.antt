@@ -1,8 +1,8 @@
-use Rattle.std.proofs.Common.{refl, sym, ◌∙◌}
+use Rattle.std.proofs.Common.{sym}
 use Rattle.std.proofs.lemmas.List.{append-nil}
 use Rattle.bash2sh.specs.Form as form
 use Rattle.bash2sh.proofs.Views.{plain_seen, exact_seen, double_seen, param_seen}
-use Rattle.bash2sh.proofs.FormLaws.{forms_are, texts_are}
+use Rattle.bash2sh.proofs.FormLaws.{texts_are}
 use Rattle.bash2sh.proofs.form.append_literal.Goals as goal
 
 pub returns-in-Plain : goal.returns-in-Plain

@@ -1,8 +1,3 @@
-use Rattle.std.proofs.Common.{◌≡◌, ◌∙◌, sym, ap, ◌&&◌, drop, List}
-use Rattle.std.specs.List.{list_all}
-use Rattle.bash_tree.specs.declared.tree.Word.{Word}
-use Rattle.bash_tree.specs.View.{view_word}
-use Rattle.bash2sh.specs.Form.{name_form, word_form}
 use Rattle.bash2sh.proofs.FormLaws.{call_is}
 use Rattle.bash2sh.proofs.form.call_form.Goals as goal
 

@@ -1,4 +1,4 @@
-use Rattle.std.proofs.Common.{refl, sym, ◌∙◌}
+use Rattle.std.proofs.Common.{refl}
 use Rattle.bash2sh.proofs.Views.{plain_seen, exact_seen, double_seen, param_seen}
 use Rattle.bash2sh.proofs.form.is_plain.Goals as goal
 

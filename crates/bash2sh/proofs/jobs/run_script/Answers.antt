@@ -1,4 +1,4 @@
-use Rattle.std.proofs.Common.{◌≡◌, ◌≤◌, ◌∙◌, sym, subst, List, ℕ, length}
+use Rattle.std.proofs.Common.{◌≤◌, ◌∙◌, sym, subst, List, ℕ, length}
 use Rattle.bash_tree.specs.View.{view}
 use Rattle.bash2sh.specs.Spelling.{Reads}
 use Rattle.bash2sh.proofs.Reporting.{good_job}

@@ -1,6 +1,4 @@
-use Rattle.std.proofs.Common.{◌≡◌}
 use Rattle.bash_tree.specs.View.{command_of}
-use Rattle.bash2sh.specs.Views.{command_seen}
 use Rattle.bash2sh.proofs.LineTexts.{line_prints}
 use Rattle.bash2sh.proofs.line_texts.put_line.Goals as goal
 

@@ -1,6 +1,4 @@
-use Rattle.std.proofs.Common.{◌≡◌, ℕ, suc, ◌<◌, ◌+◌, Bool, true, false, List, [], ◌∷◌, ◌++◌, length, take, drop, refl, sym, ap, ◌∙◌, arith}
-use Rattle.std.specs.List.{slice_split}
-use Rattle.span_text.specs.Scanning.{is_newline}
+use Rattle.std.proofs.Common.{◌≡◌, suc, length, drop, refl, ap, ◌∙◌}
 use Rattle.bash2sh.proofs.Cuts.{no_newline, at_newline, around, free_before, is_found, one_more}
 use Rattle.bash2sh.proofs.lines.first_line.Goals as goal
 

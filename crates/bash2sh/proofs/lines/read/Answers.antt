@@ -1,4 +1,3 @@
-use Rattle.std.proofs.Common.{◌≡◌, refl, sym, ap}
 use Rattle.std.proofs.lemmas.Result.{err_from_is_err_and}
 use Rattle.bash2sh.proofs.Rest.{items_found, items_refused, items_placed}
 use Rattle.bash2sh.proofs.lines.read.Goals as goal

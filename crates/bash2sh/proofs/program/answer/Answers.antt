@@ -1,6 +1,4 @@
 use Rattle.bash2sh.specs.declared.language.Language.TheVariants.{Bash}
-use Rattle.std.proofs.Common.{◌≡◌, ◌≤◌, length}
-use Rattle.bash2sh.specs.Translation.{IsRefused}
 use Rattle.bash2sh.proofs.Translating.{place_within}
 use Rattle.bash2sh.proofs.program.answer.Goals as goal
 

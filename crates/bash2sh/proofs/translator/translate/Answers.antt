@@ -1,4 +1,4 @@
-use Rattle.std.proofs.Common.{◌≡◌, refl}
+use Rattle.std.proofs.Common.{refl}
 use Rattle.bash2sh.proofs.LineTexts.{text_translated, text_refused}
 use Rattle.bash2sh.proofs.translator.translate.Goals as goal
 

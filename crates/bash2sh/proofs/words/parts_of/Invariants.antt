@@ -1,6 +1,6 @@
 use Rattle.std.proofs.Common.{length}
-use Rattle.span_text.specs.Scanning.{starts, ends_word}
-use Rattle.bash2sh.specs.Model.{is_quote, part_at, parts_at}
+use Rattle.span_text.specs.Scanning.{ends_word}
+use Rattle.bash2sh.specs.Model.{part_at, parts_at}
 use Rattle.bash2sh.specs.Views.{parts_seen}
 use Rattle.bash2sh.proofs.Loops.{Items}
 use Rattle.bash2sh.proofs.words.parts_of.Given as goal

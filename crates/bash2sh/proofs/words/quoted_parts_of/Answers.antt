@@ -1,11 +1,11 @@
-use Rattle.std.proofs.Common.{◌≡◌, true, false, length, sym, ◌∙◌}
+use Rattle.std.proofs.Common.{◌≡◌, true, false}
 use Rattle.std.proofs.lemmas.Result.{err_from_is_err_and}
-use Rattle.span_text.specs.Scanning.{starts, ends_word}
+use Rattle.span_text.specs.Scanning.{starts}
 use Rattle.bash_tree.specs.View.{view_part}
 use Rattle.bash2sh.specs.Model.{is_quote, quoted_part_at, quoted_parts_at}
 use Rattle.bash2sh.specs.Views.{parts_seen}
 use Rattle.bash2sh.proofs.WordLaws.{quoted_shorter}
-use Rattle.bash2sh.proofs.Loops.{Items, Items-more, Items-fails, Items-done, quoted_many}
+use Rattle.bash2sh.proofs.Loops.{Items-more, Items-fails, Items-done, quoted_many}
 use Rattle.bash2sh.proofs.Views.{map_more}
 use Rattle.bash2sh.proofs.words.quoted_parts_of.Goals as goal
 

@@ -1,5 +1,5 @@
 use Rattle.std.proofs.Common.{length}
-use Rattle.span_text.specs.Scanning.{starts, ends_word}
+use Rattle.span_text.specs.Scanning.{starts}
 use Rattle.bash2sh.specs.Model.{is_quote, quoted_part_at, quoted_parts_at}
 use Rattle.bash2sh.specs.Views.{parts_seen}
 use Rattle.bash2sh.proofs.Loops.{Items}

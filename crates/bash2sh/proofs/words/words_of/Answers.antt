@@ -1,10 +1,9 @@
-use Rattle.std.proofs.Common.{◌≡◌, true, false, eqb, length, List, Option, Some, sym, ap, ◌∙◌}
+use Rattle.std.proofs.Common.{◌≡◌, true, false, eqb, length, Some, sym, ◌∙◌}
 use Rattle.std.proofs.lemmas.Result.{err_from_is_err_and}
 use Rattle.span_text.specs.Scanning.{is_blank}
-use Rattle.bash_tree.specs.View.{view_part}
 use Rattle.bash2sh.specs.Model.{run_at, word_at, Fails}
 use Rattle.bash2sh.specs.Views.{parts_seen, words_seen}
-use Rattle.bash2sh.proofs.Loops.{Words, Words-more, Words-fails, Words-done, Words-smaller}
+use Rattle.bash2sh.proofs.Loops.{Words-more, Words-fails, Words-done, Words-smaller}
 use Rattle.bash2sh.proofs.Views.{map_more}
 use Rattle.bash2sh.proofs.words.words_of.Goals as goal
 
