@@ -122,23 +122,20 @@ fn what_stands_open_takes_no_deep_stack(rt: HostRuntime) -> Result<(), Fail> {
     Ok(())
 }
 
-/// Whether a text is read. The tree is let go without a walk over it, since a tree is dropped by recursion.
 fn is_read(alloc: Global, text: &[u8]) -> bool {
     match read_expr(alloc, text, &[]) {
-        Ok(e) => {
-            std::mem::forget(e);
-            true
-        }
+        Ok(_) => true,
         Err(_) => false,
     }
 }
 
+/// Trees that are as deep as they are long are dropped too.
 #[test]
-fn many_operators_in_a_row_are_read(rt: HostRuntime) -> Result<(), Fail> {
+fn long_chains_of_each_kind_are_read(rt: HostRuntime) -> Result<(), Fail> {
     let alloc = rt.alloc();
-    let pieces: [&[u8]; 4] = [b"a,", b"a=", b"a?1:", b"a||"];
+    let pieces: [&[u8]; 6] = [b"1+", b"- ", b"a,", b"a=", b"a?1:", b"a||"];
     for piece in pieces {
-        let text = repeated(alloc, 10_000, piece, b"1")?;
+        let text = repeated(alloc, 20_000, piece, b"1")?;
         assert!(rt; is_read(alloc, text.bytes()));
     }
     Ok(())
@@ -147,7 +144,33 @@ fn many_operators_in_a_row_are_read(rt: HostRuntime) -> Result<(), Fail> {
 #[test]
 fn a_million_operators_are_read(rt: HostRuntime) -> Result<(), Fail> {
     let alloc = rt.alloc();
-    let text = repeated(alloc, 1_048_576, b"- ", b"1")?;
+    let text = repeated(alloc, 1_048_576, b"1+", b"1")?;
     assert!(rt; is_read(alloc, text.bytes()));
+    Ok(())
+}
+
+/// What was read before the place is dropped too.
+#[test]
+fn long_chains_are_refused_at_their_ends(rt: HostRuntime) -> Result<(), Fail> {
+    let alloc = rt.alloc();
+    let table: [(&[u8], &[u8]); 5] = [
+        (b"1+", b"bad 40000"),
+        (b"- ", b"bad 40000"),
+        (b"a=", b"bad 40000"),
+        (b"a?1:", b"bad 80000"),
+        (b"a[1]&&", b"bad 120000"),
+    ];
+    for (piece, tree) in table {
+        let text = repeated(alloc, 20_000, piece, b")")?;
+        reads(&rt, text.bytes(), tree)?;
+    }
+    Ok(())
+}
+
+#[test]
+fn a_quarter_of_a_million_operators_are_refused_at_their_end(rt: HostRuntime) -> Result<(), Fail> {
+    let alloc = rt.alloc();
+    let text = repeated(alloc, 262_144, b"1+", b")")?;
+    reads(&rt, text.bytes(), b"bad 524288")?;
     Ok(())
 }

@@ -33,6 +33,14 @@ impl<T> Boxed<T> {
         let Boxed { inner } = self;
         Box::into_inner(inner)
     }
+
+    /// Puts another value into the box, and gives the one that was there. It takes no memory.
+    pub fn replace(&mut self, value: T) -> T
+        ensures is { result ≡ self.old }
+        ensures new { self.new ≡ value }
+    {
+        std::mem::replace(&mut self.inner, value)
+    }
 }
 
 impl<T: Drop> Boxed<T> {

@@ -1,5 +1,8 @@
 //! Arithmetic expressions (Bash manual, section 6.5), which both shells' syntax trees hold.
 
+ghost use Rattle.std.specs.Prelude.{◌≡◌, ◌+◌};
+ghost use Rattle.span_text.specs.Expression.{nodes, waiting, left};
+
 use crate::boxed::Boxed;
 use crate::text::Text;
 
@@ -69,7 +72,7 @@ pub enum StepOp {
 }
 
 /// An expression. The target of `Assign` and of `Step` is a `Name` or a `Member`, and a constant isn't negative.
-#[derive(Debug, PartialEq, Drop)]
+#[derive(Debug, PartialEq)]
 pub enum Expr {
     /// `12`, `014`, `0xc`
     Constant(i64),
@@ -92,4 +95,75 @@ pub enum Expr {
     Step(StepOp, Boxed<Expr>),
     /// `a, b`
     Comma(Boxed<Expr>, Boxed<Expr>),
+}
+
+/// An expression can be as deep as its text is long, so it is dropped by a loop. What waits is a chain in the boxes that
+/// come free: `Comma(next, others)`, `Choose(next, second, others)`, or nothing of these at its end.
+impl Drop for Expr {
+    fn drop(mut self) {
+        let mut later = Expr::Operand(0);
+        'nodes: loop {
+            let next = match self {
+                Expr::Constant(_value) => later.waiting(),
+                Expr::Operand(_number) => later.waiting(),
+                Expr::Name(_text) => later.waiting(),
+                Expr::Member(_name, a) => one(a, later),
+                Expr::Unary(_op, a) => one(a, later),
+                Expr::Step(_op, a) => one(a, later),
+                Expr::Binary(_op, a, b) => both(a, b, later),
+                Expr::And(a, b) => both(a, b, later),
+                Expr::Or(a, b) => both(a, b, later),
+                Expr::Assign(a, _op, b) => both(a, b, later),
+                Expr::Comma(a, b) => both(a, b, later),
+                Expr::Choose(a, b, c) => all(a, b, c, later),
+            };
+            let Some((now, others)) = next else { return };
+            self = now;
+            later = others;
+        }
+    }
+}
+
+impl Expr {
+    /// The first expression of those that wait, and the others.
+    fn waiting(self) -> Option<(Expr, Expr)>
+        ensures { left result ≡ waiting self }
+    {
+        match self {
+            Expr::Comma(next, others) => Some((next.into_inner(), others.into_inner())),
+            Expr::Choose(next, second, others) => Some((
+                next.into_inner(),
+                Expr::Comma(second, others),
+            )),
+            Expr::Constant(_) | Expr::Operand(_) | Expr::Name(_) => None,
+            other => Some((other, Expr::Operand(0))),
+        }
+    }
+}
+
+fn one(only: Boxed<Expr>, later: Expr) -> Option<(Expr, Expr)>
+    ensures { left result ≡ nodes only + waiting later }
+{
+    Some((only.into_inner(), later))
+}
+
+/// The first of two, which gives its box to those that wait.
+fn both(mut first: Boxed<Expr>, second: Boxed<Expr>, later: Expr) -> Option<(Expr, Expr)>
+    ensures { left result ≡ nodes first + (nodes second + waiting later) }
+{
+    let now = first.replace(later);
+    Some((now, Expr::Comma(second, first)))
+}
+
+/// The first of three, which gives its box to those that wait.
+fn all(
+    mut first: Boxed<Expr>,
+    second: Boxed<Expr>,
+    third: Boxed<Expr>,
+    later: Expr,
+) -> Option<(Expr, Expr)>
+    ensures { left result ≡ nodes first + (nodes second + (nodes third + waiting later)) }
+{
+    let now = first.replace(later);
+    Some((now, Expr::Choose(second, third, first)))
 }

@@ -1,6 +1,6 @@
 //! The standard streams as sources and sinks: the trusted edge, which tells nothing of content.
 
-ghost use Rattle.std.specs.Prelude.{None};
+ghost use Rattle.std.specs.Prelude.{◌≡◌, None};
 
 use crate::fault::Failed;
 use crate::stream::{Sink, Source};
@@ -14,7 +14,9 @@ pub struct StandardInput {
 }
 
 impl StandardInput {
-    pub fn new(stream: Stdin) -> StandardInput {
+    pub fn new(stream: Stdin) -> StandardInput
+        ensures { result.faults ≡ 0 }
+    {
         StandardInput { stream, faults: 0 }
     }
 }
@@ -43,7 +45,9 @@ pub struct StandardOutput {
 }
 
 impl StandardOutput {
-    pub fn new(stream: Stdout) -> StandardOutput {
+    pub fn new(stream: Stdout) -> StandardOutput
+        ensures { result.faults ≡ 0 }
+    {
         StandardOutput { stream, faults: 0 }
     }
 }
@@ -72,7 +76,9 @@ pub struct StandardError {
 }
 
 impl StandardError {
-    pub fn new(stream: Stderr) -> StandardError {
+    pub fn new(stream: Stderr) -> StandardError
+        ensures { result.faults ≡ 0 }
+    {
         StandardError { stream, faults: 0 }
     }
 }
