@@ -1,0 +1,4 @@
+//! Grammars as data.
+#![tactic(auto)]
+
+mod laws;
