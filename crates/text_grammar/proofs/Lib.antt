@@ -1,0 +1,4 @@
+pub mod Tools
+pub mod Sound
+pub mod Bound
+pub mod Levels
