@@ -98,7 +98,7 @@ follows : {S P T R V : Type 0} (l : Language S P T R V) (g : Grammar P T R) (n :
 follows l g n s None f h e same = refl
 follows l g n s (Some x) f h e same = ap (behind (kids l x.0)) (same x.0 x.1 (sound_in l n g s x e))
 
-level : {S P T R V : Type 0} (l : Language S P T R V) → Ends l → (g : Grammar P T R) (k n : ℕ) (s : S) → shallow l.ranks g k ≡ true → k + l.ranks.weight * l.size s ≤ n → small l.ranks g ≡ true → vals_in l n g s ≡ eval l g s
+pub level : {S P T R V : Type 0} (l : Language S P T R V) → Ends l → (g : Grammar P T R) (k n : ℕ) (s : S) → shallow l.ranks g k ≡ true → k + l.ranks.weight * l.size s ≤ n → small l.ranks g ≡ true → vals_in l n g s ≡ eval l g s
 unfolding parse
 level l ok g zero n s e le sm = absurd (no_zero l.ranks g e)
 level l ok g (suc k) zero s e le sm = absurd (omega arith)
