@@ -6,7 +6,7 @@ use Rattle.text_grammar.specs.Ranks.{takes, shallow, small, bonus}
 use Rattle.text_grammar.specs.Language.{Language, Ends, IsShallow}
 use Rattle.text_grammar.specs.Derivations.{Tree, empty, leaf, both, first, second, more, node, At}
 use Rattle.text_grammar.specs.Reading.{parse, read, ◌>>=◌}
-use Rattle.text_grammar.specs.Shapes.{Shapes, nil, joined, kids, seen, vals, ◌&◌, stepped, eval, under, behind, done}
+use Rattle.text_grammar.specs.Shapes.{Shapes, nil, kids, seen, vals, ◌&◌, stepped, eval, behind, done}
 use Rattle.text_grammar.proofs.Tools.{both_true}
 use Rattle.text_grammar.proofs.Sound.{complete_in, sound_in}
 use Rattle.text_grammar.proofs.Bound.{low, lower, no_zero, rule_is_shallow}

@@ -5,4 +5,5 @@ pub mod Levels
 pub mod Rules
 pub mod Loops
 pub mod Place
-pub mod Later
+pub mod Twice
+pub mod Example

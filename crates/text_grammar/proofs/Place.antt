@@ -1,12 +1,11 @@
 -- The place of a syntax error.
-use Rattle.std.proofs.Common.{◌≡◌, ℕ, zero, suc, ◌+◌, ◌<◌, ◌≤◌, Bool, true, false, List, [], ◌∷◌, Option, Some, None, refl, sym, ap, subst, ◌∙◌, arith}
+use Rattle.std.proofs.Common.{◌≡◌, ℕ, zero, suc, ◌+◌, ◌<◌, ◌≤◌, Bool, List, [], ◌∷◌, Option, Some, None, refl, sym, ap, subst, ◌∙◌, arith}
 use Rattle.text_grammar.specs.Grammar.{Grammar}
-use Rattle.text_grammar.specs.Ranks.{takes}
-use Rattle.text_grammar.specs.Language.{Language, Ends, IsShallow, one_if}
+use Rattle.text_grammar.specs.Language.{Language, Ends, one_if}
 use Rattle.text_grammar.specs.Derivations.{Tree, At}
 use Rattle.text_grammar.specs.Reading.{read}
 use Rattle.text_grammar.specs.Shapes.{Shapes, kids, seen, vals}
-use Rattle.text_grammar.specs.Place.{FrontAt, Stuck, IsPlace, goes_on, front_in, front}
+use Rattle.text_grammar.specs.Place.{FrontAt, Stuck, IsPlace, IsPiece, goes_on, front_in, front}
 use Rattle.text_grammar.proofs.Tools.{some_is}
 use Rattle.text_grammar.proofs.Sound.{one_tree}
 use Rattle.text_grammar.proofs.Bound.{shorter, sound, nothing_reads}
@@ -26,10 +25,6 @@ one_place {S} l piece s left whole p q a b =
     let i = a.is in let j = b.is in omega arith
 
 -- ---- where the longest front ends
-
--- a piece that takes a byte and reads in the levels of the language
-abbrev pub IsPiece : {S P T R V : Type 0} → Language S P T R V → Grammar P T R → Type 0
-IsPiece l piece = IsShallow l piece × (takes l.ranks piece ≡ true)
 
 less : {S P T R V : Type 0} (l : Language S P T R V) → Ends l → (piece : Grammar P T R) → IsPiece l piece → (s : S) (x : Tree R V × S) → read l piece s ≡ Some x → l.size x.1 < l.size s
 less l ok piece f s x e =

@@ -1,11 +1,11 @@
 -- Each rule as code reads it, and what its values say of derivations.
-use Rattle.std.proofs.Common.{◌≡◌, ℕ, zero, suc, ◌+◌, ◌*◌, ◌<◌, ◌≤◌, Bool, true, false, cond, Option, Some, None, refl, sym, ap, subst, ◌∙◌, arith}
+use Rattle.std.proofs.Common.{◌≡◌, ℕ, ◌+◌, ◌*◌, ◌<◌, ◌≤◌, Bool, true, false, cond, Option, Some, None, refl, sym, ap, subst, ◌∙◌, arith}
 use Rattle.text_grammar.specs.Grammar.{Leaf, quiet, said, Grammar, pass, fail, step, seq, choose, star, rule}
 use Rattle.text_grammar.specs.Ranks.{takes, shallow, small}
 use Rattle.text_grammar.specs.Language.{Language, Ends, IsShallow, one_if}
 use Rattle.text_grammar.specs.Derivations.{Tree, At}
 use Rattle.text_grammar.specs.Reading.{parse, read, ◌>>=◌}
-use Rattle.text_grammar.specs.Shapes.{Shapes, nil, cons, joined, kids, seen, vals, ◌&◌, stepped, eval, with_leaf, leaf_kids, under, behind, go, done}
+use Rattle.text_grammar.specs.Shapes.{Shapes, nil, cons, joined, kids, seen, vals, ◌&◌, stepped, eval, with_leaf, leaf_kids, behind, go, done}
 use Rattle.text_grammar.proofs.Tools.{some_is}
 use Rattle.text_grammar.proofs.Sound.{sound_in}
 use Rattle.text_grammar.proofs.Bound.{complete, sound, shorter}

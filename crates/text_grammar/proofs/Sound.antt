@@ -1,5 +1,5 @@
 -- What is read is spelled, and what is spelled is read, in enough levels.
-use Rattle.std.proofs.Common.{◌≡◌, ℕ, zero, suc, ◌+◌, ◌≤◌, Bool, true, false, Option, Some, None, refl, sym, ap, subst, ◌∙◌, inl, inr, arith}
+use Rattle.std.proofs.Common.{◌≡◌, ℕ, zero, suc, ◌+◌, ◌≤◌, Some, refl, sym, ap, subst, ◌∙◌, inl, inr, arith}
 use Rattle.text_grammar.specs.Grammar.{Grammar, pass, fail, step, seq, choose, star, rule}
 use Rattle.text_grammar.specs.Language.{Language}
 use Rattle.text_grammar.specs.Derivations.{Tree, empty, leaf, both, first, second, more, node, At}
@@ -48,7 +48,7 @@ sound_in {S} {R = R} {V = V} l (suc n) (step k) s x e =
 sound_in {S} {R = R} {V = V} l (suc n) (seq g h) s x e =
     let a = bind_some (parse l n g s) (λ y. parse l n h y.1 >>= λ z. Some (both y.0 z.0, z.1)) x e in
     let b = bind_some (parse l n h a.0.1) (λ z. Some (both a.0.0 z.0, z.1)) x a.2 in
-    subst (λ (y : Tree R V × S). At l y.0 (seq g h) s y.1) (some_is (both a.0.0 b.0.0, b.0.1) x b.2) (a.0.1, sound_in l n g s a.0 a.1, sound_in l n h a.0.1 b.0 b.1)
+    subst (λ (y : Tree R V × S). At l y.0 (seq g h) s y.1) {x = (both a.0.0 b.0.0, b.0.1)} (some_is (both a.0.0 b.0.0, b.0.1) x b.2) (a.0.1, sound_in l n g s a.0 a.1, sound_in l n h a.0.1 b.0 b.1)
 sound_in {S} {R = R} {V = V} l (suc n) (choose p g h) s x e =
     elim (chosen (l.holds p s) (parse l n g s >>= λ y. Some (first y.0, y.1)) (parse l n h s >>= λ y. Some (second y.0, y.1)) (Some x) e) [
       | inl c ↦
@@ -63,7 +63,7 @@ sound_in {S} {R = R} {V = V} l (suc n) (star p g) s x e =
       | inl c ↦
           let a = bind_some (parse l n g s) (λ y. parse l n (star p g) y.1 >>= λ z. Some (more y.0 z.0, z.1)) x c.1 in
           let b = bind_some (parse l n (star p g) a.0.1) (λ z. Some (more a.0.0 z.0, z.1)) x a.2 in
-          subst (λ (y : Tree R V × S). At l y.0 (star p g) s y.1) (some_is (more a.0.0 b.0.0, b.0.1) x b.2) (c.0, (a.0.1, sound_in l n g s a.0 a.1, sound_in l n (star p g) a.0.1 b.0 b.1))
+          subst (λ (y : Tree R V × S). At l y.0 (star p g) s y.1) {x = (more a.0.0 b.0.0, b.0.1)} (some_is (more a.0.0 b.0.0, b.0.1) x b.2) (c.0, (a.0.1, sound_in l n g s a.0 a.1, sound_in l n (star p g) a.0.1 b.0 b.1))
       | inr c ↦ subst (λ (y : Tree R V × S). At l y.0 (star p g) s y.1) (some_is (empty, s) x c.1) (c.0, refl)
     ]
 sound_in {S} {R = R} {V = V} l (suc n) (rule r) s x e =

@@ -39,10 +39,14 @@ abbrev pub at_end : Bytes → Option (Leaf Bytes × Bytes)
 at_end [] = Some (quiet, [])
 at_end (b ∷ bs) = None
 
+-- so many bytes
+abbrev pub cut : ℕ → Bytes → Option (Leaf Bytes × Bytes)
+cut n bs = Some (said (take n bs), drop n bs)
+
 abbrev pub run_step : Step → Bytes → Option (Leaf Bytes × Bytes)
 run_step opens bs = byte 40 bs
 run_step closes bs = byte 41 bs
-run_step letters bs = if starts is_letter bs then Some (said (take (prefix_len is_letter bs) bs), drop (prefix_len is_letter bs) bs) else None
+run_step letters bs = if starts is_letter bs then cut (prefix_len is_letter bs) bs else None
 run_step ends bs = at_end bs
 
 abbrev pub holds : Test → Bytes → Bool

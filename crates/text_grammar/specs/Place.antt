@@ -1,7 +1,8 @@
 -- The place of a syntax error.
-use Rattle.std.specs.Prelude.{◌≡◌, ℕ, zero, suc, ◌+◌, List, [], ◌∷◌, Option, Some, None}
+use Rattle.std.specs.Prelude.{◌≡◌, ℕ, zero, suc, ◌+◌, true, List, [], ◌∷◌, Option, Some, None}
 use Rattle.text_grammar.specs.Grammar.{Grammar}
-use Rattle.text_grammar.specs.Language.{Language}
+use Rattle.text_grammar.specs.Ranks.{takes}
+use Rattle.text_grammar.specs.Language.{Language, IsShallow}
 use Rattle.text_grammar.specs.Derivations.{Tree, At}
 use Rattle.text_grammar.specs.Reading.{read}
 
@@ -21,6 +22,10 @@ pub record IsPlace {S P T R V : Type 0} (l : Language S P T R V) (piece : Gramma
   pub reads : FrontAt l piece before s end
   pub longest : Stuck l piece end
   pub is : place + left end ≡ whole
+
+-- a piece that takes a byte and reads in the levels of the language
+abbrev pub IsPiece : {S P T R V : Type 0} → Language S P T R V → Grammar P T R → Type 0
+IsPiece l piece = IsShallow l piece × (takes l.ranks piece ≡ true)
 
 -- goes on behind what was read, else ends here
 abbrev pub goes_on : {S R V : Type 0} → S → Option (Tree R V × S) → (S → S) → S

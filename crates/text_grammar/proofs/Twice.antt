@@ -1,12 +1,11 @@
 -- Trees that hold what only comes later in the text: it is read once to find that, and once for the tree.
-use Rattle.std.proofs.Common.{◌≡◌, ℕ, zero, suc, Bool, true, false, List, [], ◌∷◌, Option, Some, None, refl, sym, ap, subst, ◌∙◌}
-use Rattle.text_grammar.specs.Grammar.{Grammar, pass, fail, step, seq, choose, star, rule}
+use Rattle.std.proofs.Common.{◌≡◌, ℕ, List, [], ◌∷◌, Some, None, sym, subst, ◌∙◌}
+use Rattle.text_grammar.specs.Grammar.{Grammar, pass, step, seq, choose, star, rule}
 use Rattle.text_grammar.specs.Language.{Language, Ends, IsShallow}
 use Rattle.text_grammar.specs.Derivations.{Tree, empty, leaf, both, first, second, more, node, At}
 use Rattle.text_grammar.specs.Reading.{read}
-use Rattle.text_grammar.specs.Place.{FrontAt, Stuck, IsPlace}
+use Rattle.text_grammar.specs.Place.{FrontAt, IsPlace}
 use Rattle.text_grammar.specs.Later.{Alike, AtWith}
-use Rattle.text_grammar.proofs.Tools.{some_is}
 use Rattle.text_grammar.proofs.Sound.{one_tree}
 use Rattle.text_grammar.proofs.Bound.{complete, sound}
 
