@@ -1,12 +1,12 @@
 -- Reading, one level of the grammar at a time.
-use Rattle.std.proofs.Common.{◌≡◌, ℕ, zero, suc, ◌+◌, ◌*◌, ◌≤◌, Bool, true, false, cond, Option, Some, None, refl, sym, ap, subst, ◌∙◌, arith}
+use Rattle.std.proofs.Common.{◌≡◌, ℕ, zero, suc, ◌+◌, ◌*◌, ◌≤◌, Bool, true, false, cond, List, [], ◌++◌, Option, Some, None, refl, sym, ap, subst, ◌∙◌, arith}
 use Rattle.std.proofs.lemmas.Bool.{leb-true}
 use Rattle.text_grammar.specs.Grammar.{Leaf, Grammar, pass, fail, step, seq, choose, star, rule}
 use Rattle.text_grammar.specs.Ranks.{takes, shallow, small, bonus}
 use Rattle.text_grammar.specs.Language.{Language, Ends, IsShallow}
 use Rattle.text_grammar.specs.Derivations.{Tree, empty, leaf, both, first, second, more, node, At}
 use Rattle.text_grammar.specs.Reading.{parse, read, ◌>>=◌}
-use Rattle.text_grammar.specs.Shapes.{Shapes, nil, kids, seen, vals, ◌&◌, stepped, eval, behind, done}
+use Rattle.text_grammar.specs.Values.{kids, seen, vals, ◌&◌, stepped, eval, behind, done}
 use Rattle.text_grammar.proofs.Tools.{both_true}
 use Rattle.text_grammar.proofs.Sound.{complete_in, sound_in}
 use Rattle.text_grammar.proofs.Bound.{low, lower, no_zero, rule_is_shallow}
@@ -23,7 +23,7 @@ enough_at l ok g k j n m s None (Some x) e e2 le le2 a b =
     sym a ∙ complete_in l x.0 g n s x.1 h (low l ok x.0 g k n s x.1 h e (omega arith))
 
 -- with so many levels
-abbrev vals_in : {S P T R V : Type 0} → Language S P T R V → ℕ → Grammar P T R → S → Option (Shapes R V × S)
+abbrev vals_in : {S P T R V : Type 0} → Language S P T R V → ℕ → Grammar P T R → S → Option (List V × S)
 vals_in l n g s = seen l (parse l n g s)
 
 both_seen : {S P T R V : Type 0} (l : Language S P T R V) (t : Tree R V) (o : Option (Tree R V × S)) → seen l (o >>= λ y. Some (both t y.0, y.1)) ≡ behind (kids l t) (seen l o)
@@ -48,7 +48,7 @@ seq_seen l n h None = refl
 seq_seen l n h (Some x) = both_seen l x.0 (parse l n h x.1)
 
 star_seen : {S P T R V : Type 0} (l : Language S P T R V) (n : ℕ) (p : T) (g : Grammar P T R) (s : S) (b : Bool) (o : Option (Tree R V × S)) →
-    seen l (cond b (o >>= λ x. parse l n (star p g) x.1 >>= λ y. Some (more x.0 y.0, y.1)) (Some (empty, s))) ≡ cond b (seen l o & vals_in l n (star p g)) (Some (nil, s))
+    seen l (cond b (o >>= λ x. parse l n (star p g) x.1 >>= λ y. Some (more x.0 y.0, y.1)) (Some (empty, s))) ≡ cond b (seen l o & vals_in l n (star p g)) (Some ([], s))
 star_seen l n p g s true None = refl
 star_seen l n p g s true (Some x) = more_seen l x.0 (parse l n (star p g) x.1)
 star_seen l n p g s false o = refl
@@ -69,7 +69,7 @@ seq_in : {S P T R V : Type 0} (l : Language S P T R V) (n : ℕ) (g h : Grammar 
 unfolding parse
 seq_in l n g h s = seq_seen l n h (parse l n g s)
 
-star_in : {S P T R V : Type 0} (l : Language S P T R V) (n : ℕ) (p : T) (g : Grammar P T R) (s : S) → vals_in l (suc n) (star p g) s ≡ cond (l.holds p s) (vals_in l n g s & vals_in l n (star p g)) (Some (nil, s))
+star_in : {S P T R V : Type 0} (l : Language S P T R V) (n : ℕ) (p : T) (g : Grammar P T R) (s : S) → vals_in l (suc n) (star p g) s ≡ cond (l.holds p s) (vals_in l n g s & vals_in l n (star p g)) (Some ([], s))
 unfolding parse
 star_in l n p g s = star_seen l n p g s (l.holds p s) (parse l n g s)
 
@@ -93,7 +93,7 @@ meets l ok g k n s e f le =
     ap (seen l) (enough_at l ok g k l.ranks.levels n m s (parse l n g s) (parse l m g s) e f le (omega arith) refl refl)
 
 -- what follows a read, where that may depend on what was read
-follows : {S P T R V : Type 0} (l : Language S P T R V) (g : Grammar P T R) (n : ℕ) (s : S) (o : Option (Tree R V × S)) (f h : S → Option (Shapes R V × S)) →
+follows : {S P T R V : Type 0} (l : Language S P T R V) (g : Grammar P T R) (n : ℕ) (s : S) (o : Option (Tree R V × S)) (f h : S → Option (List V × S)) →
     parse l n g s ≡ o → ((t : Tree R V) (m : S) → At l t g s m → f m ≡ h m) → (seen l o & f) ≡ (seen l o & h)
 follows l g n s None f h e same = refl
 follows l g n s (Some x) f h e same = ap (behind (kids l x.0)) (same x.0 x.1 (sound_in l n g s x e))
@@ -105,19 +105,19 @@ level l ok g (suc k) zero s e le sm = absurd (omega arith)
 level l ok pass (suc k) (suc n) s e le sm = refl
 level l ok fail (suc k) (suc n) s e le sm = refl
 level l ok (step q) (suc k) (suc n) s e le sm = step_in l n q s
-level {S} {R = R} {V = V} l ok (seq g h) (suc k) (suc n) s e le sm =
+level {S} {V = V} l ok (seq g h) (suc k) (suc n) s e le sm =
     let b = both_true (shallow l.ranks g k) (shallow l.ranks h (k + bonus l.ranks.weight (takes l.ranks g))) e in
     let c = both_true (small l.ranks g) (small l.ranks h) sm in
     seq_in l n g h s
     ∙ follows l g n s (parse l n g s) (vals_in l n h) (eval l h) refl
     (λ t m a. let i = lower l ok t g s m a in level l ok h (k + bonus l.ranks.weight (takes l.ranks g)) n m b.1 (omega arith) c.1)
-    ∙ ap (λ (o : Option (Shapes R V × S)). o & eval l h) (level l ok g k n s b.0 (omega arith) c.0)
-level {S} {R = R} {V = V} l ok (choose p g h) (suc k) (suc n) s e le sm =
+    ∙ ap (λ (o : Option (List V × S)). o & eval l h) (level l ok g k n s b.0 (omega arith) c.0)
+level {S} {V = V} l ok (choose p g h) (suc k) (suc n) s e le sm =
     let b = both_true (shallow l.ranks g k) (shallow l.ranks h k) e in
     let c = both_true (small l.ranks g) (small l.ranks h) sm in
     let i = level l ok g k n s b.0 (omega arith) c.0 in
     let j = level l ok h k n s b.1 (omega arith) c.1 in
-    choose_in l n p g h s ∙ ap (λ (o : Option (Shapes R V × S)). cond (l.holds p s) o (vals_in l n h s)) i ∙ ap (λ (o : Option (Shapes R V × S)). cond (l.holds p s) (eval l g s) o) j
+    choose_in l n p g h s ∙ ap (λ (o : Option (List V × S)). cond (l.holds p s) o (vals_in l n h s)) i ∙ ap (λ (o : Option (List V × S)). cond (l.holds p s) (eval l g s) o) j
 level l ok (star p g) (suc k) (suc n) s e le sm = let c = both_true (shallow l.ranks (star p g) l.ranks.levels) (small l.ranks g) sm in meets l ok (star p g) (suc k) (suc n) s e c.0 le
 level l ok (rule r) (suc k) (suc n) s e le sm = meets l ok (rule r) (suc k) (suc n) s e (rule_is_shallow l ok r) le
 
@@ -138,21 +138,21 @@ unfolding vals read
 eval_is l ok g s f sm = level l ok g l.ranks.levels (l.ranks.levels + l.ranks.weight * l.size s) s f (omega arith) sm
 
 turn_level : {S P T R V : Type 0} (l : Language S P T R V) → Ends l → (p : T) (g : Grammar P T R) (k n : ℕ) (s : S) → shallow l.ranks (star p g) k ≡ true → k + l.ranks.weight * l.size s ≤ n → small l.ranks (star p g) ≡ true →
-    vals_in l n (star p g) s ≡ cond (l.holds p s) (eval l g s & vals l (star p g)) (Some (nil, s))
+    vals_in l n (star p g) s ≡ cond (l.holds p s) (eval l g s & vals l (star p g)) (Some ([], s))
 turn_level l ok p g zero n s e le sm = absurd (no_zero l.ranks (star p g) e)
 turn_level l ok p g (suc k) zero s e le sm = absurd (omega arith)
-turn_level {S} {R = R} {V = V} l ok p g (suc k) (suc n) s e le sm =
+turn_level {S} {V = V} l ok p g (suc k) (suc n) s e le sm =
     let b = both_true (shallow l.ranks g k) (takes l.ranks g) e in
     let c = both_true (shallow l.ranks (star p g) l.ranks.levels) (small l.ranks g) sm in
     let w : 1 ≤ l.ranks.weight = leb-true _ _ ok.weighs in
     let i = follows l g n s (parse l n g s) (vals_in l n (star p g)) (vals l (star p g)) refl
     (λ t m a. let j : l.ranks.weight * l.size m + l.ranks.weight ≤ l.ranks.weight * l.size s = subst (λ (z : Bool). l.ranks.weight * l.size m + bonus l.ranks.weight z ≤ l.ranks.weight * l.size s) b.1 (lower l ok t g s m a) in
     meets l ok (star p g) (suc k) n m e c.0 (omega arith)) in
-    let j = ap (λ (o : Option (Shapes R V × S)). o & vals l (star p g)) (level l ok g k n s b.0 (omega arith) c.1) in
-    star_in l n p g s ∙ ap (λ (o : Option (Shapes R V × S)). cond (l.holds p s) o (Some (nil, s))) (i ∙ j)
+    let j = ap (λ (o : Option (List V × S)). o & vals l (star p g)) (level l ok g k n s b.0 (omega arith) c.1) in
+    star_in l n p g s ∙ ap (λ (o : Option (List V × S)). cond (l.holds p s) o (Some ([], s))) (i ∙ j)
 
 -- a repetition is a turn, and the repetition again
-pub star_is : {S P T R V : Type 0} (l : Language S P T R V) → Ends l → (p : T) (g : Grammar P T R) (s : S) → small l.ranks (star p g) ≡ true → vals l (star p g) s ≡ cond (l.holds p s) (eval l g s & vals l (star p g)) (Some (nil, s))
+pub star_is : {S P T R V : Type 0} (l : Language S P T R V) → Ends l → (p : T) (g : Grammar P T R) (s : S) → small l.ranks (star p g) ≡ true → vals l (star p g) s ≡ cond (l.holds p s) (eval l g s & vals l (star p g)) (Some ([], s))
 unfolding vals read
 star_is l ok p g s sm =
     let c = both_true (shallow l.ranks (star p g) l.ranks.levels) (small l.ranks g) sm in

@@ -6,4 +6,5 @@ pub mod Rules
 pub mod Loops
 pub mod Place
 pub mod Twice
+pub mod Pieces
 pub mod Example

@@ -1,6 +1,5 @@
--- What code that reads answers, and the values of a list.
-use Rattle.std.specs.Prelude.{◌≡◌, Bool, true, false, List, [], ◌∷◌, map, Option, Some, None, Result, Ok, Err}
-use Rattle.text_grammar.specs.Shapes.{Shapes, nil, joined}
+-- What code that reads answers, and the values of a list of nodes.
+use Rattle.std.specs.Prelude.{◌≡◌, Bool, true, false, List, [], ◌∷◌, ◌++◌, Option, Some, None, Result, Ok, Err}
 
 -- A fault that says nothing, as want of memory does, or that nothing reads.
 abbrev pub FailsAs : {Y : Type 0} → Bool → Option Y → Type 0
@@ -12,10 +11,7 @@ abbrev pub Gives : {X Y E : Type 0} → (E → Bool) → (X → Y) → Result X 
 Gives quiet_fault view (Ok x) o = o ≡ Some (view x)
 Gives quiet_fault view (Err e) o = FailsAs (quiet_fault e) o
 
-abbrev pub joins : {R V : Type 0} → List (Shapes R V) → Shapes R V
-joins [] = nil
-joins (x ∷ xs) = joined x (joins xs)
-
--- the shapes of a list's values, one behind the other
-abbrev pub views : {X R V : Type 0} → (X → Shapes R V) → List X → Shapes R V
-views view xs = joins (map view xs)
+-- the values of a list's nodes, one behind the other
+abbrev pub views : {X V : Type 0} → (X → List V) → List X → List V
+views view [] = []
+views view (x ∷ xs) = view x ++ views view xs

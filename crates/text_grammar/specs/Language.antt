@@ -1,16 +1,16 @@
 -- A language: the table of its rules, its steps and tests, and what the table owes.
-use Rattle.std.specs.Prelude.{◌≡◌, ℕ, suc, ◌+◌, ◌≤◌, nat_le, Bool, true, false, Option, Some}
+use Rattle.std.specs.Prelude.{◌≡◌, ℕ, suc, ◌+◌, ◌≤◌, nat_le, Bool, true, false, List, Option, Some}
 use Rattle.text_grammar.specs.Grammar.{Grammar, Leaf}
 use Rattle.text_grammar.specs.Ranks.{Ranks, takes, shallow, small}
 
--- Over states S (the bytes ahead, and whatever else steps need), steps P, tests T, rules R, and values V in the tree.
+-- Over states S (the bytes ahead, and whatever else steps need), steps P, tests T, rules R, and values V of what is read.
 pub record Language (S P T R V : Type 0) : Type 0 where
   -- what a step gives to the tree, and the state behind it; nothing where it doesn't read
   pub run_step : P → S → Option (Leaf V × S)
   pub holds : T → S → Bool
   pub body : R → Grammar P T R
-  -- the rules with a node of their own; any other only leads on
-  pub has_node : R → Bool
+  -- what a rule makes of the values below it, in their order; one that only leads on gives them back
+  pub act : R → List V → List V
   -- how many bytes are ahead
   pub size : S → ℕ
   pub ranks : Ranks P R

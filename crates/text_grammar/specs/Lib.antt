@@ -3,7 +3,7 @@ pub mod Ranks
 pub mod Language
 pub mod Derivations
 pub mod Reading
-pub mod Shapes
+pub mod Values
 pub mod Answers
 pub mod Place
 pub mod Later

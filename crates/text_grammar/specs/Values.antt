@@ -1,0 +1,70 @@
+-- What a derivation says, as values of the language, and how it is read one level of the grammar at a time.
+use Rattle.std.specs.Prelude.{List, [], ◌∷◌, ◌++◌, Option, Some, None, if◌then◌else◌}
+use Rattle.text_grammar.specs.Grammar.{Grammar, pass, fail, step, seq, choose, star, rule, Leaf, quiet, said}
+use Rattle.text_grammar.specs.Language.{Language}
+use Rattle.text_grammar.specs.Derivations.{Tree, empty, leaf, both, first, second, more, node}
+use Rattle.text_grammar.specs.Reading.{read, ◌>>=◌}
+
+abbrev pub leaf_kids : {V : Type 0} → Leaf V → List V
+leaf_kids quiet = []
+leaf_kids (said x) = x ∷ []
+
+-- the values of a derivation: what steps gave, in their order, and what each rule makes of what is below it
+abbrev pub kids : {S P T R V : Type 0} → Language S P T R V → Tree R V → List V
+kids l empty = []
+kids l (leaf x) = leaf_kids x
+kids l (both t u) = kids l t ++ kids l u
+kids l (first t) = kids l t
+kids l (second t) = kids l t
+kids l (more t u) = kids l t ++ kids l u
+kids l (node r t) = l.act r (kids l t)
+
+abbrev pub seen : {S P T R V : Type 0} → Language S P T R V → Option (Tree R V × S) → Option (List V × S)
+seen l None = None
+seen l (Some x) = Some (kids l x.0, x.1)
+
+-- what reading gives
+unfoldable pub vals : {S P T R V : Type 0} → Language S P T R V → Grammar P T R → S → Option (List V × S)
+vals l g s = seen l (read l g s)
+
+-- one after the other
+infixl 10 ◌&◌
+abbrev pub ◌&◌ : {S V : Type 0} → Option (List V × S) → (S → Option (List V × S)) → Option (List V × S)
+None & f = None
+(Some x) & f = f x.1 >>= λ y. Some (x.0 ++ y.0, y.1)
+
+abbrev pub stepped : {S V : Type 0} → Option (Leaf V × S) → Option (List V × S)
+stepped None = None
+stepped (Some x) = Some (leaf_kids x.0, x.1)
+
+-- the same, one level of the grammar at a time
+abbrev pub eval : {S P T R V : Type 0} → Language S P T R V → Grammar P T R → S → Option (List V × S)
+eval l pass s = Some ([], s)
+eval l fail s = None
+eval l (step k) s = stepped (l.run_step k s)
+eval l (seq g h) s = eval l g s & eval l h
+eval l (choose p g h) s = if l.holds p s then eval l g s else eval l h s
+eval l (star p g) s = vals l (star p g) s
+eval l (rule r) s = vals l (rule r) s
+
+abbrev pub with_leaf : {V : Type 0} → List V → Leaf V → List V
+with_leaf xs quiet = xs
+with_leaf xs (said x) = xs ++ (x ∷ [])
+
+-- behind values that were read before
+abbrev pub behind : {S V : Type 0} → List V → Option (List V × S) → Option (List V × S)
+behind xs o = o >>= λ y. Some (xs ++ y.0, y.1)
+
+-- one level of the grammar, behind what was read before
+abbrev pub go : {S P T R V : Type 0} → Language S P T R V → Grammar P T R → List V → S → Option (List V × S)
+go l pass xs s = Some (xs, s)
+go l fail xs s = None
+go l (step k) xs s = l.run_step k s >>= λ y. Some (with_leaf xs y.0, y.1)
+go l (seq g h) xs s = go l g xs s >>= λ y. go l h y.0 y.1
+go l (choose p g h) xs s = if l.holds p s then go l g xs s else go l h xs s
+go l (star p g) xs s = behind xs (vals l (star p g) s)
+go l (rule r) xs s = behind xs (vals l (rule r) s)
+
+-- what the rule makes of what was read by its body
+abbrev pub done : {S P T R V : Type 0} → Language S P T R V → R → Option (List V × S) → Option (List V × S)
+done l r o = o >>= λ y. Some (l.act r y.0, y.1)
