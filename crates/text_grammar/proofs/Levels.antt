@@ -1,5 +1,5 @@
 -- Reading, one level of the grammar at a time.
-use Rattle.std.proofs.Common.{◌≡◌, ℕ, zero, suc, ◌+◌, ◌*◌, ◌≤◌, Bool, true, false, cond, List, [], ◌++◌, Option, Some, None, refl, sym, ap, subst, ◌∙◌, arith}
+use Rattle.std.proofs.Common.{◌≡◌, ℕ, zero, suc, ◌+◌, ◌*◌, ◌≤◌, Bool, true, false, cond, List, [], Option, Some, None, refl, sym, ap, subst, ◌∙◌, arith}
 use Rattle.std.proofs.lemmas.Bool.{leb-true}
 use Rattle.text_grammar.specs.Grammar.{Leaf, Grammar, pass, fail, step, seq, choose, star, rule}
 use Rattle.text_grammar.specs.Ranks.{takes, shallow, small, bonus}

@@ -1,12 +1,12 @@
 -- Pieces of a language end once, and are read one by one.
-use Rattle.std.proofs.Common.{◌≡◌, ℕ, suc, ◌+◌, ◌<◌, ◌≤◌, Bool, true, List, Some, None, subst, arith}
+use Rattle.std.proofs.Common.{◌≡◌, ℕ, ◌+◌, ◌<◌, ◌≤◌, Bool, true, List, Some, None, subst, arith}
 use Rattle.text_grammar.specs.Grammar.{Grammar}
 use Rattle.text_grammar.specs.Ranks.{takes}
-use Rattle.text_grammar.specs.Language.{Language, Ends, IsShallow, one_if}
+use Rattle.text_grammar.specs.Language.{Language, Ends, one_if}
 use Rattle.text_grammar.specs.Derivations.{Tree, At}
 use Rattle.text_grammar.specs.Values.{kids, vals}
 use Rattle.text_grammar.specs.Place.{IsPlace, EndOnce, Reader, PieceAt, IsPiece, front}
-use Rattle.text_grammar.specs.Later.{Later, AtWith, PieceWith, next_with}
+use Rattle.text_grammar.specs.Later.{Later, PieceWith, next_with}
 use Rattle.text_grammar.proofs.Sound.{one_tree}
 use Rattle.text_grammar.proofs.Bound.{shorter}
 use Rattle.text_grammar.proofs.Rules.{vals_sound, vals_complete}

@@ -1,5 +1,5 @@
 -- Each rule as code reads it, and what its values say of derivations.
-use Rattle.std.proofs.Common.{◌≡◌, ℕ, ◌+◌, ◌*◌, ◌<◌, ◌≤◌, Bool, true, false, cond, List, [], ◌∷◌, ◌++◌, Option, Some, None, refl, sym, ap, subst, ◌∙◌, arith}
+use Rattle.std.proofs.Common.{◌≡◌, ℕ, ◌+◌, ◌*◌, ◌<◌, ◌≤◌, Bool, true, false, cond, List, [], ◌++◌, Option, Some, None, refl, sym, ap, subst, ◌∙◌, arith}
 use Rattle.std.proofs.lemmas.List.{append-nil, append_assoc}
 use Rattle.text_grammar.specs.Grammar.{Leaf, quiet, said, Grammar, pass, fail, step, seq, choose, star, rule}
 use Rattle.text_grammar.specs.Ranks.{takes, shallow, small}

@@ -1,16 +1,15 @@
 -- Trees that hold what only comes later in the text: it is read once to find that, and once for the tree.
-use Rattle.std.proofs.Common.{◌≡◌, ℕ, suc, ◌+◌, ◌<◌, ◌≤◌, Bool, List, [], ◌∷◌, Option, Some, None, refl, sym, ap, subst, ◌∙◌, arith}
+use Rattle.std.proofs.Common.{◌≡◌, ℕ, List, [], ◌∷◌, Some, None, sym, ap, subst, ◌∙◌}
 use Rattle.text_grammar.specs.Grammar.{Grammar, pass, step, seq, choose, star, rule}
-use Rattle.text_grammar.specs.Ranks.{takes}
-use Rattle.text_grammar.specs.Language.{Language, Ends, IsShallow, one_if}
+use Rattle.text_grammar.specs.Language.{Language, Ends, IsShallow}
 use Rattle.text_grammar.specs.Derivations.{Tree, empty, leaf, both, first, second, more, node, At}
 use Rattle.text_grammar.specs.Reading.{read, ◌>>=◌}
-use Rattle.text_grammar.specs.Values.{kids, seen, vals}
-use Rattle.text_grammar.specs.Place.{FrontAt, IsPlace, EndOnce, Reader, PieceAt, IsPiece}
-use Rattle.text_grammar.specs.Later.{Allows, Alike, Later, AtWith, read_twice, vals_twice, PieceWith, next_with}
-use Rattle.text_grammar.proofs.Tools.{some_is, bind_some}
+use Rattle.text_grammar.specs.Values.{kids, vals}
+use Rattle.text_grammar.specs.Place.{FrontAt, IsPlace, PieceAt}
+use Rattle.text_grammar.specs.Later.{Allows, Alike, Later, AtWith, read_twice, vals_twice}
+use Rattle.text_grammar.proofs.Tools.{bind_some}
 use Rattle.text_grammar.proofs.Sound.{one_tree}
-use Rattle.text_grammar.proofs.Bound.{complete, sound, shorter}
+use Rattle.text_grammar.proofs.Bound.{complete, sound}
 use Rattle.text_grammar.proofs.Rules.{vals_sound, vals_complete}
 
 -- ---- two languages
@@ -33,7 +32,6 @@ at_allowed l m over (more t u) (star p g) s e a =
 at_allowed {P = P} {T = T} {R = R} l m over (node q t) (rule r) s e a =
     let i = at_allowed l m over t (l.body r) s e a.1 in (node q i.0, (a.0, subst (λ (z : Grammar P T R). At m i.0 z s e) (over.body r) i.1))
 at_allowed l m over t g s e a = absurd a
-
 
 -- the same of reading
 pub read_allowed : {S P T R V W : Type 0} (l : Language S P T R V) (m : Language S P T R W) → Allows l m → Ends m → (g : Grammar P T R) (s : S) (x : Tree R V × S) → IsShallow m g → read l g s ≡ Some x → (u : Tree R W) × (read m g s ≡ Some (u, x.1))

@@ -3,4 +3,7 @@
 
 mod laws;
 
-pub use laws::{allowed, fronts, later, later_fronts, later_places, later_values, one_level, one_tree, places, reading, shorter, values};
+pub use laws::{
+    allowed, fronts, later, later_fronts, later_places, later_values, one_level, one_tree, places,
+    reading, shorter, values,
+};
