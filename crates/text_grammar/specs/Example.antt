@@ -87,7 +87,7 @@ rank item = 5
 rank word = 2
 rank brackets = 3
 
-abbrev pub example : Language Bytes Step Test Rule Bytes
+unfoldable pub example : Language Bytes Step Test Rule Bytes
 example = record {
   run_step = run_step;
   holds = holds;
