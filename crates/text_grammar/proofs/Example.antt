@@ -40,30 +40,35 @@ step_fits ends [] m x e = let same : [] ≡ m = ap (λ (y : Leaf Value × Bytes)
 step_fits ends (b ∷ bs) m x e = absurd cc
 
 rule_takes : (r : Rule) → takes example.ranks (example.body r) ≡ example.ranks.rule_takes r
+unfolding example
 rule_takes text = refl
 rule_takes item = refl
 rule_takes word = refl
 rule_takes brackets = refl
 
 rule_shallow : (r : Rule) → shallow example.ranks (example.body r) (example.ranks.rank r) ≡ true
+unfolding example
 rule_shallow text = refl
 rule_shallow item = refl
 rule_shallow word = refl
 rule_shallow brackets = refl
 
 rule_small : (r : Rule) → small example.ranks (example.body r) ≡ true
+unfolding example
 rule_small text = refl
 rule_small item = refl
 rule_small word = refl
 rule_small brackets = refl
 
 rank_below : (r : Rule) → nat_le (suc (example.ranks.rank r)) example.ranks.levels ≡ true
+unfolding example
 rank_below text = refl
 rank_below item = refl
 rank_below word = refl
 rank_below brackets = refl
 
 pub example_ends : Ends example
+unfolding example
 example_ends = record {
   step_fits = step_fits;
   rule_takes = rule_takes;
@@ -77,20 +82,20 @@ example_ends = record {
 
 -- `ab`
 words : vals example (rule text) (97 ∷ 98 ∷ []) ≡ Some (item_of (a_word (97 ∷ 98 ∷ [])) ∷ [], [])
-unfolding vals read parse
+unfolding example vals read parse
 words = refl
 
 -- `a(b)`
 nested : vals example (rule text) (97 ∷ 40 ∷ 98 ∷ 41 ∷ []) ≡ Some (item_of (a_word (97 ∷ [])) ∷ item_of (a_list (an_item (a_word (98 ∷ [])) no_item)) ∷ [], [])
-unfolding vals read parse
+unfolding example vals read parse
 nested = refl
 
 -- `(a` has no end
 open_bracket : vals example (rule text) (40 ∷ 97 ∷ []) ≡ None
-unfolding vals read parse
+unfolding example vals read parse
 open_bracket = refl
 
 -- `a)`: the front is the first word, and the place is that of the bracket
 stray_bracket : front example.size (vals example (rule item)) (97 ∷ 41 ∷ []) ≡ 41 ∷ []
-unfolding front front_in vals read parse
+unfolding example front front_in vals read parse
 stray_bracket = refl

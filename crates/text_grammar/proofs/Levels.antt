@@ -22,6 +22,10 @@ enough_at l ok g k j n m s None (Some x) e e2 le le2 a b =
     let h = sound_in l m g s x b in
     sym a ∙ complete_in l x.0 g n s x.1 h (low l ok x.0 g k n s x.1 h e (omega arith))
 
+-- one level by this language
+abbrev pub eval_at : {S P T R V : Type 0} → Language S P T R V → Grammar P T R → S → Option (List V × S)
+eval_at l g s = eval l.run_step l.holds (vals l) g s
+
 -- with so many levels
 abbrev vals_in : {S P T R V : Type 0} → Language S P T R V → ℕ → Grammar P T R → S → Option (List V × S)
 vals_in l n g s = seen l (parse l n g s)
@@ -34,7 +38,7 @@ more_seen : {S P T R V : Type 0} (l : Language S P T R V) (t : Tree R V) (o : Op
 more_seen l t None = refl
 more_seen l t (Some y) = refl
 
-node_seen : {S P T R V : Type 0} (l : Language S P T R V) (r : R) (o : Option (Tree R V × S)) → seen l (o >>= λ y. Some (node r y.0, y.1)) ≡ done l r (seen l o)
+node_seen : {S P T R V : Type 0} (l : Language S P T R V) (r : R) (o : Option (Tree R V × S)) → seen l (o >>= λ y. Some (node r y.0, y.1)) ≡ done (l.act r) (seen l o)
 node_seen l r None = refl
 node_seen l r (Some y) = refl
 
@@ -81,7 +85,7 @@ step_in : {S P T R V : Type 0} (l : Language S P T R V) (n : ℕ) (k : P) (s : S
 unfolding parse
 step_in l n k s = leaf_seen l (l.run_step k s)
 
-rule_in : {S P T R V : Type 0} (l : Language S P T R V) (n : ℕ) (r : R) (s : S) → vals_in l (suc n) (rule r) s ≡ done l r (vals_in l n (l.body r) s)
+rule_in : {S P T R V : Type 0} (l : Language S P T R V) (n : ℕ) (r : R) (s : S) → vals_in l (suc n) (rule r) s ≡ done (l.act r) (vals_in l n (l.body r) s)
 unfolding parse
 rule_in l n r s = node_seen l r (parse l n (l.body r) s)
 
@@ -98,7 +102,7 @@ follows : {S P T R V : Type 0} (l : Language S P T R V) (g : Grammar P T R) (n :
 follows l g n s None f h e same = refl
 follows l g n s (Some x) f h e same = ap (behind (kids l x.0)) (same x.0 x.1 (sound_in l n g s x e))
 
-pub level : {S P T R V : Type 0} (l : Language S P T R V) → Ends l → (g : Grammar P T R) (k n : ℕ) (s : S) → shallow l.ranks g k ≡ true → k + l.ranks.weight * l.size s ≤ n → small l.ranks g ≡ true → vals_in l n g s ≡ eval l g s
+pub level : {S P T R V : Type 0} (l : Language S P T R V) → Ends l → (g : Grammar P T R) (k n : ℕ) (s : S) → shallow l.ranks g k ≡ true → k + l.ranks.weight * l.size s ≤ n → small l.ranks g ≡ true → vals_in l n g s ≡ eval_at l g s
 unfolding parse
 level l ok g zero n s e le sm = absurd (no_zero l.ranks g e)
 level l ok g (suc k) zero s e le sm = absurd (omega arith)
@@ -109,36 +113,36 @@ level {S} {V = V} l ok (seq g h) (suc k) (suc n) s e le sm =
     let b = both_true (shallow l.ranks g k) (shallow l.ranks h (k + bonus l.ranks.weight (takes l.ranks g))) e in
     let c = both_true (small l.ranks g) (small l.ranks h) sm in
     seq_in l n g h s
-    ∙ follows l g n s (parse l n g s) (vals_in l n h) (eval l h) refl
+    ∙ follows l g n s (parse l n g s) (vals_in l n h) (eval_at l h) refl
     (λ t m a. let i = lower l ok t g s m a in level l ok h (k + bonus l.ranks.weight (takes l.ranks g)) n m b.1 (omega arith) c.1)
-    ∙ ap (λ (o : Option (List V × S)). o & eval l h) (level l ok g k n s b.0 (omega arith) c.0)
+    ∙ ap (λ (o : Option (List V × S)). o & eval_at l h) (level l ok g k n s b.0 (omega arith) c.0)
 level {S} {V = V} l ok (choose p g h) (suc k) (suc n) s e le sm =
     let b = both_true (shallow l.ranks g k) (shallow l.ranks h k) e in
     let c = both_true (small l.ranks g) (small l.ranks h) sm in
     let i = level l ok g k n s b.0 (omega arith) c.0 in
     let j = level l ok h k n s b.1 (omega arith) c.1 in
-    choose_in l n p g h s ∙ ap (λ (o : Option (List V × S)). cond (l.holds p s) o (vals_in l n h s)) i ∙ ap (λ (o : Option (List V × S)). cond (l.holds p s) (eval l g s) o) j
+    choose_in l n p g h s ∙ ap (λ (o : Option (List V × S)). cond (l.holds p s) o (vals_in l n h s)) i ∙ ap (λ (o : Option (List V × S)). cond (l.holds p s) (eval_at l g s) o) j
 level l ok (star p g) (suc k) (suc n) s e le sm = let c = both_true (shallow l.ranks (star p g) l.ranks.levels) (small l.ranks g) sm in meets l ok (star p g) (suc k) (suc n) s e c.0 le
 level l ok (rule r) (suc k) (suc n) s e le sm = meets l ok (rule r) (suc k) (suc n) s e (rule_is_shallow l ok r) le
 
-rule_level : {S P T R V : Type 0} (l : Language S P T R V) → Ends l → (r : R) (n : ℕ) (s : S) → suc (l.ranks.rank r) + l.ranks.weight * l.size s ≤ n → vals_in l n (rule r) s ≡ done l r (eval l (l.body r) s)
+rule_level : {S P T R V : Type 0} (l : Language S P T R V) → Ends l → (r : R) (n : ℕ) (s : S) → suc (l.ranks.rank r) + l.ranks.weight * l.size s ≤ n → vals_in l n (rule r) s ≡ done (l.act r) (eval_at l (l.body r) s)
 rule_level l ok r zero s le = absurd (omega arith)
-rule_level l ok r (suc n) s le = rule_in l n r s ∙ ap (done l r) (level l ok (l.body r) (l.ranks.rank r) n s (ok.rule_shallow r) (omega arith) (ok.rule_small r))
+rule_level l ok r (suc n) s le = rule_in l n r s ∙ ap (done (l.act r)) (level l ok (l.body r) (l.ranks.rank r) n s (ok.rule_shallow r) (omega arith) (ok.rule_small r))
 
 -- a rule is its body, and its node
-pub rule_is : {S P T R V : Type 0} (l : Language S P T R V) → Ends l → (r : R) (s : S) → vals l (rule r) s ≡ done l r (eval l (l.body r) s)
+pub rule_is : {S P T R V : Type 0} (l : Language S P T R V) → Ends l → (r : R) (s : S) → vals l (rule r) s ≡ done (l.act r) (eval_at l (l.body r) s)
 unfolding vals read
 rule_is l ok r s =
     let k : suc (l.ranks.rank r) ≤ l.ranks.levels = leb-true _ _ (ok.rank_below r) in
     rule_level l ok r (l.ranks.levels + l.ranks.weight * l.size s) s (omega arith)
 
 -- a small grammar is read one level at a time
-pub eval_is : {S P T R V : Type 0} (l : Language S P T R V) → Ends l → (g : Grammar P T R) (s : S) → IsShallow l g → small l.ranks g ≡ true → vals l g s ≡ eval l g s
+pub eval_is : {S P T R V : Type 0} (l : Language S P T R V) → Ends l → (g : Grammar P T R) (s : S) → IsShallow l g → small l.ranks g ≡ true → vals l g s ≡ eval_at l g s
 unfolding vals read
 eval_is l ok g s f sm = level l ok g l.ranks.levels (l.ranks.levels + l.ranks.weight * l.size s) s f (omega arith) sm
 
 turn_level : {S P T R V : Type 0} (l : Language S P T R V) → Ends l → (p : T) (g : Grammar P T R) (k n : ℕ) (s : S) → shallow l.ranks (star p g) k ≡ true → k + l.ranks.weight * l.size s ≤ n → small l.ranks (star p g) ≡ true →
-    vals_in l n (star p g) s ≡ cond (l.holds p s) (eval l g s & vals l (star p g)) (Some ([], s))
+    vals_in l n (star p g) s ≡ cond (l.holds p s) (eval_at l g s & vals l (star p g)) (Some ([], s))
 turn_level l ok p g zero n s e le sm = absurd (no_zero l.ranks (star p g) e)
 turn_level l ok p g (suc k) zero s e le sm = absurd (omega arith)
 turn_level {S} {V = V} l ok p g (suc k) (suc n) s e le sm =
@@ -152,7 +156,7 @@ turn_level {S} {V = V} l ok p g (suc k) (suc n) s e le sm =
     star_in l n p g s ∙ ap (λ (o : Option (List V × S)). cond (l.holds p s) o (Some ([], s))) (i ∙ j)
 
 -- a repetition is a turn, and the repetition again
-pub star_is : {S P T R V : Type 0} (l : Language S P T R V) → Ends l → (p : T) (g : Grammar P T R) (s : S) → small l.ranks (star p g) ≡ true → vals l (star p g) s ≡ cond (l.holds p s) (eval l g s & vals l (star p g)) (Some ([], s))
+pub star_is : {S P T R V : Type 0} (l : Language S P T R V) → Ends l → (p : T) (g : Grammar P T R) (s : S) → small l.ranks (star p g) ≡ true → vals l (star p g) s ≡ cond (l.holds p s) (eval_at l g s & vals l (star p g)) (Some ([], s))
 unfolding vals read
 star_is l ok p g s sm =
     let c = both_true (shallow l.ranks (star p g) l.ranks.levels) (small l.ranks g) sm in

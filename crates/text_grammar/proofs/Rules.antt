@@ -6,11 +6,11 @@ use Rattle.text_grammar.specs.Ranks.{takes, shallow, small}
 use Rattle.text_grammar.specs.Language.{Language, Ends, IsShallow, one_if}
 use Rattle.text_grammar.specs.Derivations.{Tree, At}
 use Rattle.text_grammar.specs.Reading.{parse, read, ◌>>=◌}
-use Rattle.text_grammar.specs.Values.{kids, seen, vals, ◌&◌, stepped, eval, with_leaf, leaf_kids, behind, go, done}
+use Rattle.text_grammar.specs.Values.{kids, seen, vals, ◌&◌, stepped, with_leaf, leaf_kids, behind, go, done}
 use Rattle.text_grammar.proofs.Tools.{some_is}
 use Rattle.text_grammar.proofs.Sound.{sound_in}
 use Rattle.text_grammar.proofs.Bound.{complete, sound, shorter}
-use Rattle.text_grammar.proofs.Levels.{rule_is, level}
+use Rattle.text_grammar.proofs.Levels.{eval_at, rule_is, level}
 
 -- behind nothing
 pub behind_nil : {S V : Type 0} (o : Option (List V × S)) → behind [] o ≡ o
@@ -41,24 +41,28 @@ cond_same : {S V : Type 0} (xs : List V) (b : Bool) (o p : Option (List V × S))
 cond_same xs true o p = refl
 cond_same xs false o p = refl
 
-pub go_is : {S P T R V : Type 0} (l : Language S P T R V) (g : Grammar P T R) (xs : List V) (s : S) → go l g xs s ≡ behind xs (eval l g s)
+-- one level by this language, behind what was read before
+abbrev pub go_at : {S P T R V : Type 0} → Language S P T R V → Grammar P T R → List V → S → Option (List V × S)
+go_at l g xs s = go l.run_step l.holds (vals l) g xs s
+
+pub go_is : {S P T R V : Type 0} (l : Language S P T R V) (g : Grammar P T R) (xs : List V) (s : S) → go_at l g xs s ≡ behind xs (eval_at l g s)
 go_is {S} {V = V} l pass xs s = ap (λ (z : List V). Some (z, s)) (sym (append-nil xs))
 go_is l fail xs s = refl
 go_is l (step k) xs s = step_same xs (l.run_step k s)
 go_is {S} {V = V} l (seq g h) xs s =
-    ap (λ (o : Option (List V × S)). o >>= λ y. go l h y.0 y.1) (go_is l g xs s)
-    ∙ bind_same (behind xs (eval l g s)) (go l h) (λ k m. behind k (eval l h m)) (λ k m. go_is l h k m)
-    ∙ seq_same xs (eval l g s) (eval l h)
+    ap (λ (o : Option (List V × S)). o >>= λ y. go_at l h y.0 y.1) (go_is l g xs s)
+    ∙ bind_same (behind xs (eval_at l g s)) (go_at l h) (λ k m. behind k (eval_at l h m)) (λ k m. go_is l h k m)
+    ∙ seq_same xs (eval_at l g s) (eval_at l h)
 go_is {S} {V = V} l (choose p g h) xs s =
-    ap (λ (o : Option (List V × S)). cond (l.holds p s) o (go l h xs s)) (go_is l g xs s)
-    ∙ ap (λ (o : Option (List V × S)). cond (l.holds p s) (behind xs (eval l g s)) o) (go_is l h xs s)
-    ∙ cond_same xs (l.holds p s) (eval l g s) (eval l h s)
+    ap (λ (o : Option (List V × S)). cond (l.holds p s) o (go_at l h xs s)) (go_is l g xs s)
+    ∙ ap (λ (o : Option (List V × S)). cond (l.holds p s) (behind xs (eval_at l g s)) o) (go_is l h xs s)
+    ∙ cond_same xs (l.holds p s) (eval_at l g s) (eval_at l h s)
 go_is l (star p g) xs s = refl
 go_is l (rule r) xs s = refl
 
 -- A rule, one level at a time: the contract of a function that reads it.
-pub rule_go : {S P T R V : Type 0} (l : Language S P T R V) → Ends l → (r : R) (s : S) → vals l (rule r) s ≡ done l r (go l (l.body r) [] s)
-rule_go l ok r s = rule_is l ok r s ∙ ap (done l r) (sym (go_is l (l.body r) [] s ∙ behind_nil (eval l (l.body r) s)))
+pub rule_go : {S P T R V : Type 0} (l : Language S P T R V) → Ends l → (r : R) (s : S) → vals l (rule r) s ≡ done (l.act r) (go l.run_step l.holds (vals l) (l.body r) [] s)
+rule_go l ok r s = rule_is l ok r s ∙ ap (done (l.act r)) (sym (go_is l (l.body r) [] s ∙ behind_nil (eval_at l (l.body r) s)))
 
 -- ---- values and derivations
 
@@ -94,7 +98,7 @@ rule_less l ok r tk s m k e =
 pub rule_fits : {S P T R V : Type 0} (l : Language S P T R V) → Ends l → (r : R) (s m : S) (k : List V) → vals l (rule r) s ≡ Some (k, m) → l.size m ≤ l.size s
 rule_fits l ok r s m k e = let i = vals_shorter l ok (rule r) s (k, m) e in omega arith
 
-pub eval_shorter : {S P T R V : Type 0} (l : Language S P T R V) → Ends l → (g : Grammar P T R) (k : ℕ) (s : S) (y : List V × S) → shallow l.ranks g k ≡ true → small l.ranks g ≡ true → eval l g s ≡ Some y → l.size y.1 + one_if (takes l.ranks g) ≤ l.size s
+pub eval_shorter : {S P T R V : Type 0} (l : Language S P T R V) → Ends l → (g : Grammar P T R) (k : ℕ) (s : S) (y : List V × S) → shallow l.ranks g k ≡ true → small l.ranks g ≡ true → eval_at l g s ≡ Some y → l.size y.1 + one_if (takes l.ranks g) ≤ l.size s
 eval_shorter l ok g k s y f sm e =
     let n = k + l.ranks.weight * l.size s in
     let a = seen_some l (parse l n g s) y (level l ok g k n s f (omega arith) sm ∙ e) in

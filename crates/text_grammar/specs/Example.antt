@@ -113,7 +113,7 @@ rank item = 5
 rank word = 2
 rank brackets = 3
 
-abbrev pub example : Language Bytes Step Test Rule Value
+unfoldable pub example : Language Bytes Step Test Rule Value
 example = record {
   run_step = run_step;
   holds = holds;

@@ -1,5 +1,5 @@
 -- What a derivation says, as values of the language, and how it is read one level of the grammar at a time.
-use Rattle.std.specs.Prelude.{List, [], ◌∷◌, ◌++◌, Option, Some, None, if◌then◌else◌}
+use Rattle.std.specs.Prelude.{Bool, List, [], ◌∷◌, ◌++◌, Option, Some, None, if◌then◌else◌}
 use Rattle.text_grammar.specs.Grammar.{Grammar, pass, fail, step, seq, choose, star, rule, Leaf, quiet, said}
 use Rattle.text_grammar.specs.Language.{Language}
 use Rattle.text_grammar.specs.Derivations.{Tree, empty, leaf, both, first, second, more, node}
@@ -37,34 +37,35 @@ abbrev pub stepped : {S V : Type 0} → Option (Leaf V × S) → Option (List V 
 stepped None = None
 stepped (Some x) = Some (leaf_kids x.0, x.1)
 
--- the same, one level of the grammar at a time
-abbrev pub eval : {S P T R V : Type 0} → Language S P T R V → Grammar P T R → S → Option (List V × S)
-eval l pass s = Some ([], s)
-eval l fail s = None
-eval l (step k) s = stepped (l.run_step k s)
-eval l (seq g h) s = eval l g s & eval l h
-eval l (choose p g h) s = if l.holds p s then eval l g s else eval l h s
-eval l (star p g) s = vals l (star p g) s
-eval l (rule r) s = vals l (rule r) s
+-- behind values that were read before
+abbrev pub behind : {S V : Type 0} → List V → Option (List V × S) → Option (List V × S)
+behind xs o = o >>= λ y. Some (xs ++ y.0, y.1)
+
+-- ---- one level of the grammar: what steps give, what tests say, and what rules and repetitions read (`vals l`)
+
+abbrev pub eval : {S P T R V : Type 0} → (P → S → Option (Leaf V × S)) → (T → S → Bool) → (Grammar P T R → S → Option (List V × S)) → Grammar P T R → S → Option (List V × S)
+eval run test deeper pass s = Some ([], s)
+eval run test deeper fail s = None
+eval run test deeper (step k) s = stepped (run k s)
+eval run test deeper (seq g h) s = eval run test deeper g s & eval run test deeper h
+eval run test deeper (choose p g h) s = if test p s then eval run test deeper g s else eval run test deeper h s
+eval run test deeper (star p g) s = deeper (star p g) s
+eval run test deeper (rule r) s = deeper (rule r) s
 
 abbrev pub with_leaf : {V : Type 0} → List V → Leaf V → List V
 with_leaf xs quiet = xs
 with_leaf xs (said x) = xs ++ (x ∷ [])
 
--- behind values that were read before
-abbrev pub behind : {S V : Type 0} → List V → Option (List V × S) → Option (List V × S)
-behind xs o = o >>= λ y. Some (xs ++ y.0, y.1)
+-- the same, behind what was read before
+abbrev pub go : {S P T R V : Type 0} → (P → S → Option (Leaf V × S)) → (T → S → Bool) → (Grammar P T R → S → Option (List V × S)) → Grammar P T R → List V → S → Option (List V × S)
+go run test deeper pass xs s = Some (xs, s)
+go run test deeper fail xs s = None
+go run test deeper (step k) xs s = run k s >>= λ y. Some (with_leaf xs y.0, y.1)
+go run test deeper (seq g h) xs s = go run test deeper g xs s >>= λ y. go run test deeper h y.0 y.1
+go run test deeper (choose p g h) xs s = if test p s then go run test deeper g xs s else go run test deeper h xs s
+go run test deeper (star p g) xs s = behind xs (deeper (star p g) s)
+go run test deeper (rule r) xs s = behind xs (deeper (rule r) s)
 
--- one level of the grammar, behind what was read before
-abbrev pub go : {S P T R V : Type 0} → Language S P T R V → Grammar P T R → List V → S → Option (List V × S)
-go l pass xs s = Some (xs, s)
-go l fail xs s = None
-go l (step k) xs s = l.run_step k s >>= λ y. Some (with_leaf xs y.0, y.1)
-go l (seq g h) xs s = go l g xs s >>= λ y. go l h y.0 y.1
-go l (choose p g h) xs s = if l.holds p s then go l g xs s else go l h xs s
-go l (star p g) xs s = behind xs (vals l (star p g) s)
-go l (rule r) xs s = behind xs (vals l (rule r) s)
-
--- what the rule makes of what was read by its body
-abbrev pub done : {S P T R V : Type 0} → Language S P T R V → R → Option (List V × S) → Option (List V × S)
-done l r o = o >>= λ y. Some (l.act r y.0, y.1)
+-- what a rule makes of what its body read
+abbrev pub done : {S V : Type 0} → (List V → List V) → Option (List V × S) → Option (List V × S)
+done act o = o >>= λ y. Some (act y.0, y.1)

@@ -40,9 +40,9 @@ pub fn shorter<S, P, T, R, V>()
 /// the repetition again. So there is one function of code for each rule, and one loop for each repetition.
 #[tactic(auto, using(crate::proofs::Rules::rule_go, crate::proofs::Levels::star_is))]
 pub fn one_level<S, P, T, R, V>()
-    ensures rules { (l : Language S P T R V) → Ends l → (r : R) (s : S) → vals l (rule r) s ≡ done l r (go l (l.body r) [] s) }
+    ensures rules { (l : Language S P T R V) → Ends l → (r : R) (s : S) → vals l (rule r) s ≡ done (l.act r) (go l.run_step l.holds (vals l) (l.body r) [] s) }
     ensures repetitions { (l : Language S P T R V) → Ends l → (p : T) (g : Grammar P T R) (s : S) → small l.ranks (star p g) ≡ true →
-        vals l (star p g) s ≡ (if l.holds p s then (eval l g s & vals l (star p g)) else Some ([], s)) }
+        vals l (star p g) s ≡ (if l.holds p s then (eval l.run_step l.holds (vals l) g s & vals l (star p g)) else Some ([], s)) }
 {}
 
 /// A text has at most one place of a syntax error, and it has the place where `front` ends.
