@@ -6,7 +6,7 @@ use Rattle.text_grammar.specs.Grammar.{Grammar, star}
 use Rattle.text_grammar.specs.Ranks.{Ranks, takes, shallow, small}
 use Rattle.text_grammar.specs.Language.{Language, Ends, one_if}
 use Rattle.text_grammar.specs.Values.{vals, behind}
-use Rattle.text_grammar.specs.Answers.{FailsAs, views}
+use Rattle.text_grammar.specs.Answers.{FailsAs, views, pick_in, picks}
 use Rattle.text_grammar.proofs.Tools.{both_true}
 use Rattle.text_grammar.proofs.Bound.{no_zero}
 use Rattle.text_grammar.proofs.Levels.{eval_at, star_is}
@@ -26,6 +26,20 @@ views_more view (x ∷ xs) ys = ap (λ z. view x ++ z) (views_more view xs ys) �
 pub views_one : {X V : Type 0} (view : X → V) (xs : List X) → views (λ x. view x ∷ []) xs ≡ map view xs
 views_one view [] = refl
 views_one view (x ∷ xs) = ap (λ z. view x ∷ z) (views_one view xs)
+
+picked_more : {X : Type 0} (o : Option X) (xs ys : List X) → pick_in o (xs ++ ys) ≡ pick_in o xs ++ ys
+picked_more None xs ys = refl
+picked_more (Some x) xs ys = refl
+
+-- what was made of nodes gives them back
+pub picks_views : {X V : Type 0} (pick : V → Option X) (make : X → V) → ((x : X) → pick (make x) ≡ Some x) → (xs : List X) → picks pick (views (λ x. make x ∷ []) xs) ≡ xs
+picks_views pick make same [] = refl
+picks_views pick make same (x ∷ xs) = ap (λ o. pick_in o (picks pick (views (λ x. make x ∷ []) xs))) (same x) ∙ ap (λ z. x ∷ z) (picks_views pick make same xs)
+
+-- of two lists of values, those of both
+pub picks_more : {X V : Type 0} (pick : V → Option X) (vs ws : List V) → picks pick (vs ++ ws) ≡ picks pick vs ++ picks pick ws
+picks_more pick [] ws = refl
+picks_more pick (v ∷ vs) ws = ap (pick_in (pick v)) (picks_more pick vs ws) ∙ picked_more (pick v) (picks pick vs) (picks pick ws)
 
 -- one more value is what was read in front of the rest
 pub behind_push : {S X V : Type 0} (view : X → List V) (xs : List X) (x : X) (o : Option (List V × S)) → behind (views view (xs ++ x ∷ [])) o ≡ behind (views view xs) (behind (view x) o)

@@ -15,3 +15,12 @@ Gives quiet_fault view (Err e) o = FailsAs (quiet_fault e) o
 abbrev pub views : {X V : Type 0} → (X → List V) → List X → List V
 views view [] = []
 views view (x ∷ xs) = view x ++ views view xs
+
+abbrev pub pick_in : {X : Type 0} → Option X → List X → List X
+pick_in None xs = xs
+pick_in (Some x) xs = x ∷ xs
+
+-- those of the values that are of one kind, as a rule takes its parts
+abbrev pub picks : {X V : Type 0} → (V → Option X) → List V → List X
+picks pick [] = []
+picks pick (v ∷ vs) = pick_in (pick v) (picks pick vs)
