@@ -1,0 +1,10 @@
+pub mod Tools
+pub mod Sound
+pub mod Bound
+pub mod Levels
+pub mod Rules
+pub mod Loops
+pub mod Place
+pub mod Twice
+pub mod Pieces
+pub mod Example

@@ -1,0 +1,5 @@
+use Rattle.text_grammar.proofs.Pieces as pieces
+use Rattle.text_grammar.proofs.laws.later_places.Goals as goal
+
+pub returns-clause-one : goal.returns-clause-one
+returns-clause-one g c = pieces.one_place_with

@@ -1,0 +1,10 @@
+pub mod Grammar
+pub mod Ranks
+pub mod Language
+pub mod Derivations
+pub mod Reading
+pub mod Values
+pub mod Answers
+pub mod Place
+pub mod Later
+pub mod Example
