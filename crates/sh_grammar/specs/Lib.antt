@@ -1,0 +1,12 @@
+pub mod Shape
+pub mod Bytes
+pub mod Tokens
+pub mod Expansions
+pub mod Bodies
+pub mod State
+pub mod Table
+pub mod Steps
+pub mod Acts
+pub mod Depths
+pub mod Spelling
+pub mod Examples
