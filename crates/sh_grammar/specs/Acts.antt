@@ -2,8 +2,8 @@
 use Rattle.std.specs.Prelude.{true, false, List, [], ◌∷◌}
 use Rattle.sh_grammar.specs.Shape.{double, subst as subst_part, Kind, simple, group as group_kind, subshell as subshell_kind, branching, loop, walk, cases, function, listed, no_redirect, pipeline as pipeline_of, chain as chain_of}
 use Rattle.sh_grammar.specs.Shape as shape
-use Rattle.sh_grammar.specs.State.{Node, part_node, word_node, assign_node, kind_node, command_node, bang_node, pipeline_node, and_node, or_node, chain_node, script_node, branch_node, else_node, listed_node, item_node, parts_in, words_in, assigns_in, redirects_in, stages_in, links_in, chains_in, branches_in, items_in, text_in, digit_in, word_in, value_in, script_in, second_script_in, has_bang, else_in, listed_in, kind_in, command_in, pipeline_in, filled_in, aimed_in, op_in}
-use Rattle.sh_grammar.specs.Table.{Rule, list, maybe_list, chain, and_link, or_link, pipeline, bang, compound_command, group, subshell, if_command, if_branch, else_part, while_loop, until_loop, for_loop, for_in, case_command, case_item, function_command, simple_command, assign, redirect, file, word, value, pattern, double_quotes, fill, trim, subst, body_parts}
+use Rattle.sh_grammar.specs.State.{Node, part_node, word_node, assign_node, kind_node, command_node, bang_node, pipeline_node, and_node, or_node, chain_node, script_node, branch_node, else_node, listed_node, item_node, parts_in, words_in, assigns_in, redirects_in, stages_in, links_in, chains_in, branches_in, items_in, text_in, digit_in, word_in, value_in, script_in, second_script_in, has_bang, else_in, listed_in, kind_in, command_in, pipeline_in, filled_in, aimed_in, op_in, operands_in, sum_in}
+use Rattle.sh_grammar.specs.Table.{Rule, list, maybe_list, chain, and_link, or_link, pipeline, bang, compound_command, group, subshell, if_command, if_branch, else_part, while_loop, until_loop, for_loop, for_in, case_command, case_item, function_command, simple_command, assign, redirect, file, word, value, pattern, double_quotes, fill, trim, subst, sum, body_parts}
 
 abbrev a : Kind → List Node
 a k = kind_node k ∷ []
@@ -40,5 +40,6 @@ act double_quotes xs = part_node (double (parts_in xs)) ∷ []
 act (fill c) xs = part_node (filled_in xs (parts_in xs)) ∷ []
 act (trim c) xs = part_node (filled_in xs (parts_in xs)) ∷ []
 act subst xs = part_node (subst_part (script_in xs)) ∷ []
+act sum xs = part_node (sum_in xs (operands_in xs)) ∷ []
 act body_parts xs = word_node (parts_in xs) ∷ []
 act r xs = xs

@@ -2,7 +2,7 @@
 use Rattle.std.specs.Prelude.{ℕ, Bool, true, false}
 use Rattle.text_grammar.specs.Ranks.{Ranks}
 use Rattle.sh_grammar.specs.Tokens.{Op, End, Newline, Semi, SemiSemi, AndIf, OrIf, Pipe, Open, Close, Less, Great, DGreat, DLess, DLessDash, LessAnd, GreatAnd, Io, Word, Other}
-use Rattle.sh_grammar.specs.Table.{Step, op, key, line, ends, name, assign_name, descriptor, file_op, here, copy, to_word, tilde, literal, escaped, exact, quote, dollar, closed, open_head, open_subst, close_brace, enter, leave, Rule, piece, line_piece, complete, complete_more, list, maybe_list, list_more, lines, chain, link, and_link, or_link, pipeline, bang, stage, command, compound_command, compound, other_compound, group, subshell, if_command, if_branch, elif_branch, else_part, while_loop, until_loop, do_body, for_loop, for_words, for_in, case_command, case_in, case_item, pattern_more, item_end, function_command, simple_command, prefixed, called, suffix, prefix_item, suffix_item, assign, redirect, target, file, word, value, word_parts, more_parts, pattern, part, double_quotes, expansion, braces, fill, trim, subst, body_parts}
+use Rattle.sh_grammar.specs.Table.{Step, op, key, line, ends, name, assign_name, descriptor, file_op, here, copy, to_word, tilde, literal, escaped, exact, quote, dollar, closed, open_head, open_subst, close_brace, open_sum, sum_bytes, operand, sum_open, sum_close, close_sum, enter, leave, Rule, piece, line_piece, complete, complete_more, list, maybe_list, list_more, lines, chain, link, and_link, or_link, pipeline, bang, stage, command, compound_command, compound, other_compound, group, subshell, if_command, if_branch, elif_branch, else_part, while_loop, until_loop, do_body, for_loop, for_words, for_in, case_command, case_in, case_item, pattern_more, item_end, function_command, simple_command, prefixed, called, suffix, prefix_item, suffix_item, assign, redirect, target, file, word, value, word_parts, more_parts, pattern, part, double_quotes, expansion, braces, fill, trim, subst, sum, sum_part, sum_group, body_parts}
 
 -- the operators that the table reads take bytes
 abbrev pub op_takes : Op → Bool
@@ -17,6 +17,7 @@ abbrev pub step_takes : Step → Bool
 step_takes (op o) = op_takes o
 step_takes ends = false
 step_takes to_word = false
+step_takes operand = false
 step_takes enter = false
 step_takes leave = false
 step_takes k = true
@@ -34,29 +35,29 @@ rule_takes r = true
 
 -- the levels of a derivation that takes no byte
 abbrev pub rank : Rule → ℕ
-rank piece = 36
-rank line_piece = 36
-rank complete = 33
+rank piece = 37
+rank line_piece = 37
+rank complete = 34
 rank complete_more = 2
-rank list = 34
-rank maybe_list = 35
+rank list = 35
+rank maybe_list = 36
 rank list_more = 3
 rank lines = 2
-rank chain = 31
+rank chain = 32
 rank link = 4
 rank and_link = 2
 rank or_link = 2
-rank pipeline = 29
+rank pipeline = 30
 rank bang = 1
 rank stage = 2
-rank command = 26
+rank command = 27
 rank compound_command = 12
 rank compound = 10
 rank other_compound = 6
 rank group = 2
 rank subshell = 2
 rank if_command = 2
-rank if_branch = 36
+rank if_branch = 37
 rank elif_branch = 2
 rank else_part = 2
 rank while_loop = 2
@@ -67,33 +68,36 @@ rank for_words = 6
 rank for_in = 2
 rank case_command = 2
 rank case_in = 2
-rank case_item = 19
+rank case_item = 20
 rank pattern_more = 2
 rank item_end = 3
 rank function_command = 2
-rank simple_command = 23
+rank simple_command = 24
 rank prefixed = 11
-rank called = 20
-rank suffix = 22
+rank called = 21
+rank suffix = 23
 rank prefix_item = 9
-rank suffix_item = 20
+rank suffix_item = 21
 rank assign = 2
 rank redirect = 7
 rank target = 5
 rank file = 2
-rank word = 18
-rank value = 17
-rank word_parts = 16
-rank more_parts = 15
-rank pattern = 16
-rank (part c) = 13
+rank word = 19
+rank value = 18
+rank word_parts = 17
+rank more_parts = 16
+rank pattern = 17
+rank (part c) = 14
 rank double_quotes = 2
-rank (expansion c) = 8
+rank (expansion c) = 9
 rank (braces c) = 5
 rank (fill c) = 2
 rank (trim c) = 2
 rank subst = 2
-rank body_parts = 16
+rank sum = 2
+rank sum_part = 13
+rank sum_group = 2
+rank body_parts = 17
 
 abbrev pub ranks : Ranks Step Rule
-ranks = record { step_takes = step_takes; rule_takes = rule_takes; rank = rank; levels = 38; weight = 100 }
+ranks = record { step_takes = step_takes; rule_takes = rule_takes; rank = rank; levels = 39; weight = 100 }

@@ -9,7 +9,7 @@ use Rattle.sh_grammar.specs.Shape as shape
 use Rattle.sh_grammar.specs.Shape.{Script, Part, plain, exact, double, tilde, param, named, digits, count, at, as_is, length_of, fill, trim, default, subst, no_part, part, Parts, Words, no_word, word, no_value, value, no_assign, assign, no_redirect, redirect, write, here_expanded, Command, Kind, simple, subshell, group, cases, walk, parameters, no_item, item, no_stage, stage, no_link, and_link, no_chain, next_chain}
 use Rattle.sh_grammar.specs.Bytes.{Text, is_literal, clear, comment_end, gap, is_special_param, expands, is_meta, is_active, is_plain, is_escaped, has_single, has_double, fill_context, trim_context, literal_run, begins_unit, unit_starts, name_run, digit_run}
 use Rattle.sh_grammar.specs.Tokens.{front, token, is_token, code, semi_at, and_at, pipe_at, here_at, less_at, great_at, key_text, is_key, here_next, copy_next, redirect_next, name_next, simple_next, compound_next, command_next, pipeline_next, name_at, assign_at, assign_next, function_next, tilde_at, tilde_next}
-use Rattle.sh_grammar.specs.Expansions.{◌>>=◌, param_at, long_param_at, head_at, behind_two, dollar_param, dollar_head, subst_next, brace_next, closed_next, filling_next}
+use Rattle.sh_grammar.specs.Expansions.{◌>>=◌, dollar_sum, sum_next, param_at, long_param_at, head_at, behind_two, dollar_param, dollar_head, subst_next, brace_next, closed_next, filling_next}
 use Rattle.sh_grammar.specs.Bodies.{delimiter_from, delimiter_at, body_from, body_at, bodies_at}
 use Rattle.sh_grammar.specs.State.{State, start_at, Node, chains_in}
 use Rattle.sh_grammar.specs.Table.{Rule, piece}
@@ -37,5 +37,5 @@ calls ws = simple no_assign ws
 
 -- a b
 e0 : script_of [] (codes "a b") ≡ Some (does (calls (word (w (codes "a")) (word (w (codes "b")) no_word))), [])
-unfolding parse sh run_step holds quoted_run front token is_token code semi_at and_at pipe_at here_at less_at great_at key_text is_key here_next copy_next redirect_next name_next simple_next compound_next command_next pipeline_next name_at assign_at assign_next function_next tilde_at tilde_next is_literal clear comment_end gap is_special_param expands is_meta is_active is_plain is_escaped has_single has_double fill_context trim_context literal_run begins_unit unit_starts name_run digit_run param_at long_param_at head_at behind_two dollar_param dollar_head subst_next brace_next closed_next filling_next delimiter_from delimiter_at body_from body_at bodies_at begins_name continues_name
+unfolding parse sh run_step holds quoted_run front token is_token code semi_at and_at pipe_at here_at less_at great_at key_text is_key here_next copy_next redirect_next name_next simple_next compound_next command_next pipeline_next name_at assign_at assign_next function_next tilde_at tilde_next is_literal clear comment_end gap is_special_param expands is_meta is_active is_plain is_escaped has_single has_double fill_context trim_context literal_run begins_unit unit_starts name_run digit_run dollar_sum sum_next param_at long_param_at head_at behind_two dollar_param dollar_head subst_next brace_next closed_next filling_next delimiter_from delimiter_at body_from body_at bodies_at begins_name continues_name
 e0 = refl

@@ -114,6 +114,10 @@ abbrev is_subst : Option Text → Bool
 is_subst None = false
 is_subst (Some rest) = not (is_open (clear rest))
 
+-- behind the second `(` of `$((`
+unfoldable pub dollar_sum : Text → Option Text
+dollar_sum bytes = behind_two 36 40 bytes >>= λ rest. behind 40 (clear rest)
+
 -- `$(` that isn't `$((`
 unfoldable pub subst_next : Text → Bool
 subst_next bytes = is_subst (behind_two 36 40 bytes)
@@ -121,6 +125,9 @@ subst_next bytes = is_subst (behind_two 36 40 bytes)
 abbrev is_something : {A : Type 0} → Option A → Bool
 is_something None = false
 is_something (Some x) = true
+
+unfoldable pub sum_next : Text → Bool
+sum_next bytes = is_something (dollar_sum bytes)
 
 unfoldable pub brace_next : Text → Bool
 brace_next bytes = is_something (behind_two 36 123 bytes)

@@ -4,6 +4,7 @@ pub mod Tokens
 pub mod Expansions
 pub mod Bodies
 pub mod State
+pub mod Sums
 pub mod Table
 pub mod Steps
 pub mod Acts

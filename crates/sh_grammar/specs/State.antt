@@ -1,21 +1,30 @@
 -- Where reading is, and what it gives.
 use Rattle.std.specs.Prelude.{ℕ, Bool, true, false, List, [], ◌∷◌, Option, Some, None}
-use Rattle.sh_grammar.specs.Shape.{Part, plain, double, param, subst, fill, trim, no_part, part, Parts, Words, no_word, word, Value, no_value, value, Assigns, no_assign, assign, RedirectOp, Redirects, no_redirect, redirect, Command, Kind, group, Branches, no_branch, branch, Otherwise, no_else, otherwise, ForWords, parameters, Items, no_item, item, Stages, no_stage, stage, Pipeline, pipeline, Links, no_link, and_link, or_link, Chain, chain, Script, no_chain, next_chain}
+use Rattle.span_text.specs.declared.span.Span.{Span}
+use Rattle.span_text.specs.declared.expr.Expr.{Expr}
+use Rattle.sh_grammar.specs.Shape.{Part, plain, double, param, subst, arith, fill, trim, no_part, part, Parts, Words, no_word, word, Value, no_value, value, Assigns, no_assign, assign, RedirectOp, Redirects, no_redirect, redirect, Command, Kind, group, Branches, no_branch, branch, Otherwise, no_else, otherwise, ForWords, parameters, Items, no_item, item, Stages, no_stage, stage, Pipeline, pipeline, Links, no_link, and_link, or_link, Chain, chain, Script, no_chain, next_chain}
 use Rattle.sh_grammar.specs.Bytes.{Text}
 use Rattle.sh_grammar.specs.Expansions.{Head, closed, filling, trimming}
 use Rattle.sh_grammar.specs.Bodies.{Owed}
 
--- The bytes ahead; the here-documents whose bodies are still to come; how many were named; the bodies that came; and how
--- deep the nesting is.
+-- What was read of an arithmetic expansion: its bytes, and the spans of the expansions that stand in it as operands. Each
+-- of these is one byte here.
+pub record Sum : Type 0 where
+  pub text : Text
+  pub operands : List Span
+
+-- The bytes ahead; the here-documents whose bodies are still to come; how many were named; the bodies that came; how deep
+-- the nesting is; and the arithmetic expansions that stand open, the innermost first.
 pub record State : Type 0 where
   pub bytes : Text
   pub owed : List Owed
   pub named : ℕ
   pub found : List Text
   pub depth : ℕ
+  pub sums : List Sum
 
 abbrev pub start_at : ℕ → Text → State
-start_at depth bytes = record { bytes = bytes; owed = []; named = 0; found = []; depth = depth }
+start_at depth bytes = record { bytes = bytes; owed = []; named = 0; found = []; depth = depth; sums = [] }
 
 abbrev pub move : State → Text → State
 move s bytes = record s { bytes = bytes }
@@ -30,6 +39,7 @@ pub data Node : Type 0 where
   digit_node : ℕ → Node
   part_node : Part → Node
   head_node : Head → Node
+  expr_node : Expr → Node
   word_node : Parts → Node
   op_node : RedirectOp → Node
   -- a redirection without its descriptor
@@ -183,3 +193,14 @@ abbrev pub op_in : List Node → Parts → List Node
 op_in [] w = []
 op_in (op_node op ∷ xs) w = aimed_node op w ∷ []
 op_in (x ∷ xs) w = op_in xs w
+
+-- the operands of an arithmetic expansion, each a word of one part
+abbrev pub operands_in : List Node → Words
+operands_in [] = no_word
+operands_in (part_node p ∷ xs) = word (part p no_part) (operands_in xs)
+operands_in (x ∷ xs) = operands_in xs
+
+abbrev pub sum_in : List Node → Words → Part
+sum_in [] ws = plain []
+sum_in (expr_node e ∷ xs) ws = arith e ws
+sum_in (x ∷ xs) ws = sum_in xs ws

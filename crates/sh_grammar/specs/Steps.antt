@@ -5,10 +5,11 @@ use Rattle.text_grammar.specs.Grammar.{Leaf, quiet, said}
 use Rattle.sh_grammar.specs.Shape.{Parts, no_part, part, plain, exact as exact_part, tilde as tilde_part, param, as_is, RedirectOp, read, write, append, here_literal, here_expanded, copy_in, copy_out}
 use Rattle.sh_grammar.specs.Bytes.{Text, clear, gap, starts, literal_run, unit_starts, has_single, has_double, is_escaped, expands, is_bare_dollar, in_word}
 use Rattle.sh_grammar.specs.Tokens.{Op, End, Newline, Semi, AndIf, OrIf, Less, Great, DGreat, DLess, DLessDash, LessAnd, Open, Word, Key, Esac, token, is_token, bare, is_whole, is_key, here_next, copy_next, redirect_next, simple_next, compound_next, pipeline_next, name_at, assign_at, assign_next, function_next, tilde_at, tilde_next}
-use Rattle.sh_grammar.specs.Expansions.{◌>>=◌, Head, closed as closed_head, filling, trimming, dollar_param, dollar_head, behind_two, subst_next, brace_next, closed_next, filling_next}
+use Rattle.sh_grammar.specs.Expansions.{◌>>=◌, Head, closed as closed_head, filling, trimming, dollar_param, dollar_head, behind_two, dollar_sum, subst_next, sum_next, brace_next, closed_next, filling_next}
 use Rattle.sh_grammar.specs.Bodies.{Owed, delimiter_at, bodies_at}
-use Rattle.sh_grammar.specs.State.{State, move, Node, text_node, digit_node, part_node, head_node, op_node, aimed_node}
-use Rattle.sh_grammar.specs.Table.{Step, op, key, line, ends, name, assign_name, descriptor, file_op, here, copy, to_word, tilde, literal, escaped, exact, quote, dollar, closed, open_head, open_subst, close_brace, enter, leave, Test, next, key_next, separates, goes_on, links, pipeline_begins, compound_begins, function_begins, simple_begins, assign_begins, redirect_begins, here_begins, copy_begins, prefix_begins, suffix_begins, item_begins, tilde_begins, unit_begins, single_begins, double_begins, escape_begins, expansion_begins, subst_begins, brace_begins, closed_begins, filling_begins}
+use Rattle.sh_grammar.specs.State.{State, move, Node, text_node, digit_node, part_node, head_node, expr_node, op_node, aimed_node}
+use Rattle.sh_grammar.specs.Sums.{sum_run, with_bytes, with_operand, no_sum, innermost, without_innermost}
+use Rattle.sh_grammar.specs.Table.{Step, op, key, line, ends, name, assign_name, descriptor, file_op, here, copy, to_word, tilde, literal, escaped, exact, quote, dollar, closed, open_head, open_subst, close_brace, open_sum, sum_bytes, operand, sum_open, sum_close, close_sum, enter, leave, Test, next, key_next, separates, goes_on, links, pipeline_begins, compound_begins, function_begins, simple_begins, assign_begins, redirect_begins, here_begins, copy_begins, prefix_begins, suffix_begins, item_begins, tilde_begins, unit_begins, single_begins, double_begins, escape_begins, expansion_begins, subst_begins, brace_begins, closed_begins, filling_begins, sum_begins, sum_goes_on, sum_opens}
 
 -- What is known of the here-documents: all bodies in their order, and how an expanded one is read at a depth.
 pub record Known : Type 0 where
@@ -118,6 +119,15 @@ head_read s (closed_head p o, rest) = None
 head_read s (filling p t c, rest) = gives (head_node (filling p t c)) s rest
 head_read s (trimming p x l, rest) = gives (head_node (trimming p x l)) s rest
 
+-- ---- arithmetic expansions
+
+abbrev with_sums : State → List Rattle.sh_grammar.specs.State.Sum → Text → Read
+with_sums s sums bytes = Some (quiet, record s { bytes = bytes; sums = sums })
+
+abbrev bytes_read : State → Text × Text → Read
+bytes_read s ([], rest) = None
+bytes_read s (b ∷ bs, rest) = with_sums s (with_bytes (b ∷ bs) s.sums) rest
+
 -- ---- steps
 
 abbrev line_read : State → Text → Read
@@ -149,6 +159,12 @@ run_step k closed s = if nat_lt s.depth limit then (dollar_head s.bytes >>= λ x
 run_step k open_head s = dollar_head s.bytes >>= λ x. head_read s x
 run_step k open_subst s = behind_two 36 40 s.bytes >>= λ rest. silent s rest
 run_step k close_brace s = behind 125 (clear s.bytes) >>= λ rest. silent s rest
+run_step k open_sum s = dollar_sum s.bytes >>= λ rest. with_sums s (no_sum ∷ s.sums) rest
+run_step k sum_bytes s = bytes_read s (sum_run s.bytes)
+run_step k operand s = with_sums s (with_operand s.sums) s.bytes
+run_step k sum_open s = behind 40 s.bytes >>= λ rest. with_sums s (with_bytes (40 ∷ []) s.sums) rest
+run_step k sum_close s = behind 41 s.bytes >>= λ rest. with_sums s (with_bytes (41 ∷ []) s.sums) rest
+run_step k close_sum s = behind_two 41 41 s.bytes >>= λ rest. innermost s.sums >>= λ e. Some (said (expr_node e), record s { bytes = rest; sums = without_innermost s.sums })
 run_step k enter s = when (nat_lt s.depth limit) (quiet, record s { depth = suc s.depth })
 run_step k leave s = Some (quiet, record s { depth = s.depth - 1 })
 
@@ -164,6 +180,10 @@ escaped_behind c (b ∷ bs) = b == 92 && starts (is_escaped c) bs
 abbrev dollar_behind : Text → Bool
 dollar_behind [] = false
 dollar_behind (b ∷ bs) = b == 36 && not (is_bare_dollar bs)
+
+abbrev is_empty : Text → Bool
+is_empty [] = true
+is_empty (b ∷ bs) = false
 
 unfoldable pub holds : Test → State → Bool
 holds (next o) s = is_token o s.bytes
@@ -192,3 +212,6 @@ holds subst_begins s = subst_next s.bytes
 holds brace_begins s = brace_next s.bytes
 holds closed_begins s = closed_next s.bytes
 holds filling_begins s = filling_next s.bytes
+holds sum_begins s = sum_next s.bytes
+holds sum_goes_on s = not (starts (λ b. b == 41) s.bytes || starts (λ b. b == 0) s.bytes) && not (is_empty s.bytes)
+holds sum_opens s = starts (λ b. b == 40) s.bytes

@@ -43,6 +43,15 @@ pub data Step : Type 0 where
   open_subst : Step
   -- `}`
   close_brace : Step
+  -- `$((`
+  open_sum : Step
+  -- bytes of an arithmetic expansion; an expansion that is one of its operands begins; `(`; `)`
+  sum_bytes : Step
+  operand : Step
+  sum_open : Step
+  sum_close : Step
+  -- `))`, where the bytes and operands before it spell an expression
+  close_sum : Step
   -- a level of nesting begins, and ends
   enter : Step
   leave : Step
@@ -81,6 +90,9 @@ pub data Test : Type 0 where
   brace_begins : Test
   closed_begins : Test
   filling_begins : Test
+  sum_begins : Test
+  sum_goes_on : Test
+  sum_opens : Test
 
 pub data Rule : Type 0 where
   -- lines and lists
@@ -146,6 +158,9 @@ pub data Rule : Type 0 where
   fill : Context → Rule
   trim : Context → Rule
   subst : Rule
+  sum : Rule
+  sum_part : Rule
+  sum_group : Rule
   -- the body of a here-document that is expanded
   body_parts : Rule
 
@@ -236,10 +251,14 @@ body pattern = step to_word then rule (part in_word) then rule more_parts
 -- part: '..' | ".." | \b | an expansion | bytes
 body (part c) = choose (single_begins c) (step exact) (choose (double_begins c) (rule double_quotes) (choose (escape_begins c) (step (escaped c)) (choose expansion_begins (rule (expansion c)) (step (literal c)))))
 body double_quotes = step quote then star (unit_begins in_double) (rule (part in_double)) then step quote
--- expansion: $( list? ) | ${..} | $a
-body (expansion c) = choose subst_begins (rule subst) (choose brace_begins (rule (braces c)) (step dollar))
+-- expansion: $(( .. )) | $( list? ) | ${..} | $a
+body (expansion c) = choose sum_begins (rule sum) (choose subst_begins (rule subst) (choose brace_begins (rule (braces c)) (step dollar)))
 body (braces c) = choose closed_begins (step closed) (choose filling_begins (rule (fill c)) (rule (trim c)))
 body (fill c) = step open_head then step enter then star (unit_begins (fill_context c)) (rule (part (fill_context c))) then step close_brace then step leave
 body (trim c) = step open_head then step enter then star (unit_begins (trim_context c)) (rule (part (trim_context c))) then step close_brace then step leave
 body subst = step open_subst then step enter then rule maybe_list then step (op Close) then step leave
+-- sum: $(( part* )); part: '(' part* ')' | an expansion | bytes
+body sum = step open_sum then step enter then star sum_goes_on (rule sum_part) then step close_sum then step leave
+body sum_part = choose sum_opens (rule sum_group) (choose expansion_begins (step operand then rule (expansion in_double)) (step sum_bytes))
+body sum_group = step sum_open then step enter then star sum_goes_on (rule sum_part) then step sum_close then step leave
 body body_parts = star (unit_begins in_body) (rule (part in_body)) then step ends
