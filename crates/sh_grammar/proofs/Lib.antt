@@ -1,0 +1,4 @@
+pub mod Tools
+pub mod Lengths
+pub mod Fronts
+pub mod Heads
