@@ -101,3 +101,47 @@ head_fits bytes =
     chosen P (is_hash bytes) _ _ (weaker (length (clear (tail bytes))) n (hash_head (clear (tail bytes))) (omega arith) (hash_fits (clear (tail bytes))))
         (then (Rest {A = Param} n) (Rest {A = Head} n) (long_param_at bytes) (λ x. operator_at x.0 (clear x.1)) (long_param_fits bytes)
             (λ x h. let d = clear_fits x.1 in weaker (length (clear x.1)) n (operator_at x.0 (clear x.1)) (omega arith) (operator_fits x.0 (clear x.1))))
+
+-- ---- at the `$`
+
+-- what is left is shorter than n
+abbrev pub Left : ℕ → Text → Type 0
+Left n bytes = length bytes + 1 ≤ n
+
+pub behind_fits : (k : ℕ) (bytes : Text) → If (Left (length bytes)) (behind k bytes)
+behind_fits k [] = tt
+behind_fits k (b ∷ bs) = let P = If (Left (suc (length bs))) in let i : length bs + 1 ≤ suc (length bs) = omega arith in chosen P (b == k) _ _ i tt
+
+shorter : (n m : ℕ) (o : Option Text) → n ≤ m → If (Left n) o → If (Left m) o
+shorter n m None le h = tt
+shorter n m (Some x) le h = omega arith
+
+-- joins before the byte
+pub behind_clear_fits : (k : ℕ) (bytes : Text) → If (Left (length bytes)) (behind k (clear bytes))
+behind_clear_fits k bytes = let c = clear_fits bytes in shorter (length (clear bytes)) (length bytes) (behind k (clear bytes)) c (behind_fits k (clear bytes))
+
+pub behind_two_fits : (j k : ℕ) (bytes : Text) → If (Left (length bytes)) (behind_two j k bytes)
+unfolding behind_two
+behind_two_fits j k bytes =
+    then (Left (length bytes)) (Left (length bytes)) (behind j (clear bytes)) (λ rest. behind k (clear rest)) (behind_clear_fits j bytes)
+        (λ rest h. shorter (length rest) (length bytes) (behind k (clear rest)) (omega arith) (behind_clear_fits k rest))
+
+-- what is behind what was read is shorter than n
+abbrev pub RestLeft : {A : Type 0} → ℕ → A × Text → Type 0
+RestLeft n x = length x.1 + 1 ≤ n
+
+left_rest : {A : Type 0} (n m : ℕ) (o : Option (A × Text)) → n + 1 ≤ m → If (Rest n) o → If (RestLeft m) o
+left_rest n m None le h = tt
+left_rest n m (Some x) le h = omega arith
+
+pub dollar_param_fits : (bytes : Text) → If (RestLeft (length bytes)) (dollar_param bytes)
+unfolding dollar_param
+dollar_param_fits bytes =
+    then (Left (length bytes)) (RestLeft {A = Param} (length bytes)) (behind 36 (clear bytes)) (λ rest. param_at (clear rest)) (behind_clear_fits 36 bytes)
+        (λ rest h. let c = clear_fits rest in left_rest (length (clear rest)) (length bytes) (param_at (clear rest)) (omega arith) (param_fits (clear rest)))
+
+pub dollar_head_fits : (bytes : Text) → If (RestLeft (length bytes)) (dollar_head bytes)
+unfolding dollar_head
+dollar_head_fits bytes =
+    then (Left (length bytes)) (RestLeft {A = Head} (length bytes)) (behind_two 36 123 bytes) (λ rest. head_at (clear rest)) (behind_two_fits 36 123 bytes)
+        (λ rest h. let c = clear_fits rest in left_rest (length (clear rest)) (length bytes) (head_at (clear rest)) (omega arith) (head_fits (clear rest)))

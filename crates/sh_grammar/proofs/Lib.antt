@@ -2,3 +2,5 @@ pub mod Tools
 pub mod Lengths
 pub mod Fronts
 pub mod Heads
+pub mod Names
+pub mod Lines
