@@ -4,3 +4,4 @@ pub mod Fronts
 pub mod Heads
 pub mod Names
 pub mod Lines
+pub mod Steps
