@@ -5,3 +5,4 @@ pub mod Heads
 pub mod Names
 pub mod Lines
 pub mod Steps
+pub mod Ends
