@@ -26,13 +26,13 @@ pub data Mode : Type 0 where
   joined_doubled : Mode
 
 -- what was read, whether something was quoted, and what follows
-abbrev Read : Type 0
+abbrev pub Read : Type 0
 Read = Option ((Text × Bool) × Text)
 
-abbrev quoted : Read → Read
+abbrev pub quoted : Read → Read
 quoted x = x >>= λ y. Some ((y.0.0, true), y.1)
 
-abbrev with : ℕ → Read → Read
+abbrev pub with : ℕ → Read → Read
 with b x = x >>= λ y. Some ((b ∷ y.0.0, y.0.1), y.1)
 
 unfoldable pub delimiter_from : Mode → Text → Read
@@ -65,7 +65,7 @@ delimiter_at bytes = if unit_starts in_word bytes then delimiter_from bare bytes
 -- ---- bodies
 
 -- Behind the line `name`, which is the last one or ends with a newline. Joins count as removed unless the body is literal.
-abbrev line_from : Bool → Bool → Text → Text → Option Text
+abbrev pub line_from : Bool → Bool → Text → Text → Option Text
 line_from literal taken [] [] = Some []
 line_from literal taken (d ∷ ds) [] = None
 line_from literal true name (b ∷ bs) = line_from literal false name bs
@@ -83,35 +83,35 @@ pub data Place : Type 0 where
   -- behind a backslash that makes no join
   kept_byte : Place
 
-abbrev last_line : Owed → Place → Text → Option Text
+abbrev pub last_line : Owed → Place → Text → Option Text
 last_line o line_start bytes = line_from o.literal false o.delimiter bytes
 last_line o within bytes = None
 last_line o join_at_start bytes = None
 last_line o join_within bytes = None
 last_line o kept_byte bytes = None
 
-abbrev or_further : Option Text → Option (Text × Text) → Option (Text × Text)
+abbrev pub or_further : Option Text → Option (Text × Text) → Option (Text × Text)
 or_further (Some rest) further = Some ([], rest)
 or_further None further = further
 
-abbrev with_byte : ℕ → Option (Text × Text) → Option (Text × Text)
+abbrev pub with_byte : ℕ → Option (Text × Text) → Option (Text × Text)
 with_byte b x = x >>= λ y. Some (b ∷ y.0, y.1)
 
-abbrev is_start : Place → Bool
+abbrev pub is_start : Place → Bool
 is_start line_start = true
 is_start within = false
 is_start join_at_start = false
 is_start join_within = false
 is_start kept_byte = false
 
-abbrev join_of : Place → Place
+abbrev pub join_of : Place → Place
 join_of line_start = join_at_start
 join_of within = join_within
 join_of join_at_start = join_at_start
 join_of join_within = join_within
 join_of kept_byte = join_within
 
-abbrev behind_byte : Bool → ℕ → Place
+abbrev pub behind_byte : Bool → ℕ → Place
 behind_byte literal b = if b == 10 then line_start else (if b == 92 && not literal then kept_byte else within)
 
 -- the lines before the delimiter's line, and what follows that line

@@ -30,7 +30,7 @@ is_join b [] = false
 is_join b (c ∷ bs) = b == 92 && c == 10
 
 -- Without the joins at the front. The Bool: the byte at the front belongs to a join.
-abbrev clear_from : Bool → Text → Text
+abbrev pub clear_from : Bool → Text → Text
 clear_from taken [] = []
 clear_from true (b ∷ bs) = clear_from false bs
 clear_from false (b ∷ bs) = if is_join b bs then clear_from true bs else b ∷ bs
@@ -47,7 +47,7 @@ abbrev pub is_blank : ℕ → Bool
 is_blank b = b == 32 || b == 9
 
 -- without the blanks and joins before a token, and without a comment there
-abbrev gap_from : Bool → Text → Text
+abbrev pub gap_from : Bool → Text → Text
 gap_from taken [] = []
 gap_from true (b ∷ bs) = gap_from false bs
 gap_from false (b ∷ bs) = if is_blank b then gap_from false bs else (if is_join b bs then gap_from true bs else (if b == 35 then comment_end bs else b ∷ bs))
@@ -56,7 +56,7 @@ unfoldable pub gap : Text → Text
 gap bytes = gap_from false bytes
 
 -- without newlines too
-abbrev idle_from : Bool → Bool → Text → Text
+abbrev pub idle_from : Bool → Bool → Text → Text
 idle_from taken comment [] = []
 idle_from true comment (b ∷ bs) = idle_from false comment bs
 idle_from false true (b ∷ bs) = idle_from false (not (b == 10)) bs
@@ -72,7 +72,7 @@ starts p (b ∷ bs) = p b
 -- ---- runs
 
 -- a text that was read, and the bytes behind it
-abbrev with_byte : ℕ → Text × Text → Text × Text
+abbrev pub with_byte : ℕ → Text × Text → Text × Text
 with_byte b x = (b ∷ x.0, x.1)
 
 -- The longest front of bytes that go on, with joins between them left out. A byte goes on or not by what follows it too.

@@ -18,13 +18,13 @@ pub data Head : Type 0 where
   -- `${a#`, `${a%%`
   trimming : Param → (suffix longest : Bool) → Head
 
-abbrev named_as : (Text → Param) → Text × Text → Option (Param × Text)
+abbrev pub named_as : (Text → Param) → Text × Text → Option (Param × Text)
 named_as f x = Some (f x.0, x.1)
 
-abbrev special : ℕ → Text → Option (Param × Text)
+abbrev pub special : ℕ → Text → Option (Param × Text)
 special b bs = if b == 35 then Some (count, bs) else (if b == 63 then Some (status, bs) else (if b == 64 then Some (at, bs) else (if b == 42 then Some (star, bs) else None)))
 
-abbrev one_digit : ℕ → Text → Option (Param × Text)
+abbrev pub one_digit : ℕ → Text → Option (Param × Text)
 one_digit b bs = Some (digits (b ∷ []), bs)
 
 -- behind `$`: a name, one digit, `#`, `?`, `@` or `*`
@@ -37,52 +37,52 @@ unfoldable pub long_param_at : Text → Option (Param × Text)
 long_param_at [] = None
 long_param_at (b ∷ bs) = if begins_name b then named_as named (name_run (b ∷ bs)) else (if is_digit b then named_as digits (digit_run (b ∷ bs)) else special b bs)
 
-abbrev fill_test : ℕ → Option FillTest
+abbrev pub fill_test : ℕ → Option FillTest
 fill_test b = if b == 45 then Some default else (if b == 61 then Some assigning else (if b == 43 then Some alternate else None))
 
-abbrev fills : Param → Bool → Text → Option (Head × Text)
+abbrev pub fills : Param → Bool → Text → Option (Head × Text)
 fills p colon [] = None
 fills p colon (b ∷ bs) = fill_test b >>= λ t. Some (filling p t colon, bs)
 
 -- behind `#` or `%`: a second one makes the match the longest
-abbrev trims : Param → Bool → ℕ → Text → Option (Head × Text)
+abbrev pub trims : Param → Bool → ℕ → Text → Option (Head × Text)
 trims p suffix k [] = Some (trimming p suffix false, [])
 trims p suffix k (b ∷ bs) = if b == k then Some (trimming p suffix true, bs) else Some (trimming p suffix false, b ∷ bs)
 
 -- behind the parameter of `${`
-abbrev operator_at : Param → Text → Option (Head × Text)
+abbrev pub operator_at : Param → Text → Option (Head × Text)
 operator_at p [] = None
 operator_at p (b ∷ bs) = if b == 125 then Some (closed p as_is, bs)
     else (if b == 58 then fills p true (clear bs)
     else (if b == 35 then trims p false 35 (clear bs)
     else (if b == 37 then trims p true 37 (clear bs) else fills p false (b ∷ bs))))
 
-abbrev is_close : Text → Bool
+abbrev pub is_close : Text → Bool
 is_close bytes = starts (λ b. b == 125) bytes
 
-abbrev tail : Text → Text
+abbrev pub tail : Text → Text
 tail [] = []
 tail (b ∷ bs) = bs
 
 -- `${#a}`, where a `}` stands behind the parameter
-abbrev length_head : Option (Param × Text) → Option (Head × Text)
+abbrev pub length_head : Option (Param × Text) → Option (Head × Text)
 length_head None = None
 length_head (Some x) = if is_close (clear x.1) then Some (closed x.0 length_of, tail (clear x.1)) else None
 
-abbrev or_else : {A : Type 0} → Option A → Option A → Option A
+abbrev pub or_else : {A : Type 0} → Option A → Option A → Option A
 or_else (Some x) y = Some x
 or_else None y = y
 
 -- `${#-}` is the length of `$-`, which sh text doesn't have here
-abbrev is_dash : Text → Bool
+abbrev pub is_dash : Text → Bool
 is_dash [] = false
 is_dash (b ∷ bs) = b == 45 && is_close (clear bs)
 
 -- behind `${#`: `${#}`, a length, or an operation on `$#`
-abbrev hash_head : Text → Option (Head × Text)
+abbrev pub hash_head : Text → Option (Head × Text)
 hash_head bs = if is_close bs || is_dash bs then (if is_dash bs then None else operator_at count bs) else or_else (length_head (long_param_at bs)) (operator_at count bs)
 
-abbrev is_hash : Text → Bool
+abbrev pub is_hash : Text → Bool
 is_hash bytes = starts (λ b. b == 35) bytes
 
 -- behind `${`
@@ -91,7 +91,7 @@ head_at bytes = if is_hash bytes then hash_head (clear (tail bytes)) else (long_
 
 -- ---- at the `$`
 
-abbrev behind : ℕ → Text → Option Text
+abbrev pub behind : ℕ → Text → Option Text
 behind k [] = None
 behind k (b ∷ bs) = if b == k then Some bs else None
 
@@ -110,7 +110,7 @@ dollar_head bytes = behind_two 36 123 bytes >>= λ rest. head_at (clear rest)
 abbrev is_open : Text → Bool
 is_open bytes = starts (λ b. b == 40) bytes
 
-abbrev is_subst : Option Text → Bool
+abbrev pub is_subst : Option Text → Bool
 is_subst None = false
 is_subst (Some rest) = not (is_open (clear rest))
 
@@ -122,7 +122,7 @@ dollar_sum bytes = behind_two 36 40 bytes >>= λ rest. behind 40 (clear rest)
 unfoldable pub subst_next : Text → Bool
 subst_next bytes = is_subst (behind_two 36 40 bytes)
 
-abbrev is_something : {A : Type 0} → Option A → Bool
+abbrev pub is_something : {A : Type 0} → Option A → Bool
 is_something None = false
 is_something (Some x) = true
 

@@ -22,7 +22,7 @@ Lang = Language State Step Test Rule Node
 abbrev pub knowing : Known → Lang
 knowing k = record { run_step = run_step k; holds = holds; body = body; act = act; size = λ s. length s.bytes; ranks = ranks }
 
-abbrev no_parts : ℕ → Text → Option Parts
+abbrev pub no_parts : ℕ → Text → Option Parts
 no_parts depth text = None
 
 -- Sh with bodies in bodies at most n deep, where these are the bodies.

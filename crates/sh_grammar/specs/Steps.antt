@@ -22,19 +22,19 @@ limit = 1000
 
 -- ---- leaves
 
-abbrev Read : Type 0
+abbrev pub Read : Type 0
 Read = Option (Leaf Node × State)
 
 abbrev pub when : {A : Type 0} → Bool → A → Option A
 when b x = if b then Some x else None
 
-abbrev silent : State → Text → Read
+abbrev pub silent : State → Text → Read
 silent s bytes = Some (quiet, move s bytes)
 
-abbrev gives : Node → State → Text → Read
+abbrev pub gives : Node → State → Text → Read
 gives x s bytes = Some (said x, move s bytes)
 
-abbrev behind : ℕ → Text → Option Text
+abbrev pub behind : ℕ → Text → Option Text
 behind k [] = None
 behind k (b ∷ bs) = if b == k then Some bs else None
 
@@ -50,57 +50,57 @@ abbrev pub literal_parts : Text → Parts
 literal_parts [] = no_part
 literal_parts (b ∷ bs) = part (plain (b ∷ bs)) no_part
 
-abbrev expanded_parts : Known → ℕ → Text → Option Parts
+abbrev pub expanded_parts : Known → ℕ → Text → Option Parts
 expanded_parts k depth [] = Some no_part
 expanded_parts k depth (b ∷ bs) = k.expand depth (b ∷ bs)
 
 -- the redirection to this here-document
-abbrev here_node : Known → State → Bool → Option Node
+abbrev pub here_node : Known → State → Bool → Option Node
 here_node k s true = Some (aimed_node here_literal (literal_parts (nth k.bodies s.named)))
 here_node k s false = expanded_parts k s.depth (nth k.bodies s.named) >>= λ ps. Some (aimed_node here_expanded ps)
 
 -- behind the operator
-abbrev here_after : Known → State → Bool → Text → Read
+abbrev pub here_after : Known → State → Bool → Text → Read
 here_after k s strips bytes = delimiter_at (gap bytes) >>= λ d. here_node k s d.0.1 >>= λ x.
     Some (said x, record s { bytes = d.1; owed = s.owed ++ record { delimiter = d.0.0; literal = d.0.1; strips = strips } ∷ []; named = suc s.named })
 
-abbrev here_read : Known → State → Op × Text → Read
+abbrev pub here_read : Known → State → Op × Text → Read
 here_read k s (DLess, rest) = here_after k s false rest
 here_read k s (DLessDash, rest) = here_after k s true rest
 here_read k s t = None
 
 -- ---- other redirections
 
-abbrev op_read : State → Op × Text → Read
+abbrev pub op_read : State → Op × Text → Read
 op_read s (Less, rest) = gives (op_node read) s rest
 op_read s (Great, rest) = gives (op_node write) s rest
 op_read s (DGreat, rest) = gives (op_node append) s rest
 op_read s t = None
 
-abbrev is_copied : ℕ → Bool
+abbrev pub is_copied : ℕ → Bool
 is_copied b = is_digit b || b == 45
 
 -- a digit or `-` that is the whole word
-abbrev copied_read : State → RedirectOp → Text → Read
+abbrev pub copied_read : State → RedirectOp → Text → Read
 copied_read s o [] = None
 copied_read s o (b ∷ bs) = if is_copied b && not (unit_starts in_word (clear bs)) then gives (aimed_node o (part (plain (b ∷ [])) no_part)) s bs else None
 
-abbrev copy_read : State → Op × Text → Read
+abbrev pub copy_read : State → Op × Text → Read
 copy_read s (LessAnd, rest) = copied_read s copy_in (gap rest)
 copy_read s (Rattle.sh_grammar.specs.Tokens.GreatAnd, rest) = copied_read s copy_out (gap rest)
 copy_read s t = None
 
-abbrev digit_read : State → Text → Read
+abbrev pub digit_read : State → Text → Read
 digit_read s [] = None
 digit_read s (b ∷ bs) = gives (digit_node (b - 48)) s bs
 
 -- ---- words
 
-abbrev literal_read : State → Text × Text → Read
+abbrev pub literal_read : State → Text × Text → Read
 literal_read s ([], rest) = None
 literal_read s (b ∷ bs, rest) = gives (part_node (plain (b ∷ bs))) s rest
 
-abbrev escaped_read : Rattle.sh_grammar.specs.Bytes.Context → State → Text → Read
+abbrev pub escaped_read : Rattle.sh_grammar.specs.Bytes.Context → State → Text → Read
 escaped_read c s [] = None
 escaped_read c s (b ∷ bs) = if is_escaped c b then gives (part_node (exact_part (b ∷ []))) s bs else None
 
@@ -109,12 +109,12 @@ unfoldable pub quoted_run : Text → Option (Text × Text)
 quoted_run [] = None
 quoted_run (b ∷ bs) = if b == 39 then Some ([], bs) else (if b == 0 then None else (quoted_run bs >>= λ x. Some (b ∷ x.0, x.1)))
 
-abbrev closed_read : State → Head × Text → Read
+abbrev pub closed_read : State → Head × Text → Read
 closed_read s (closed_head p o, rest) = gives (part_node (param p o)) s rest
 closed_read s (filling p t c, rest) = None
 closed_read s (trimming p x l, rest) = None
 
-abbrev head_read : State → Head × Text → Read
+abbrev pub head_read : State → Head × Text → Read
 head_read s (closed_head p o, rest) = None
 head_read s (filling p t c, rest) = gives (head_node (filling p t c)) s rest
 head_read s (trimming p x l, rest) = gives (head_node (trimming p x l)) s rest
@@ -130,7 +130,7 @@ bytes_read s (b ∷ bs, rest) = with_sums s (with_bytes (b ∷ bs) s.sums) rest
 
 -- ---- steps
 
-abbrev line_read : State → Text → Read
+abbrev pub line_read : State → Text → Read
 line_read s rest = bodies_at s.owed rest >>= λ x. Some (quiet, record s { bytes = x.1; owed = []; found = s.found ++ x.0 })
 
 abbrev pub none_owed : List Owed → Bool

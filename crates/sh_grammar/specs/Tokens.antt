@@ -55,11 +55,11 @@ code Word = 17
 code Other = 18
 
 -- behind a byte k that may follow, joins aside
-abbrev after_byte : ℕ → Text → (Text → Op × Text) → Op × Text → Op × Text
+abbrev pub after_byte : ℕ → Text → (Text → Op × Text) → Op × Text → Op × Text
 after_byte k [] longer shorter = shorter
 after_byte k (b ∷ bs) longer shorter = if b == k then longer bs else shorter
 
-abbrev goes_on_with : ℕ → Text → (Text → Op × Text) → Op × Text → Op × Text
+abbrev pub goes_on_with : ℕ → Text → (Text → Op × Text) → Op × Text → Op × Text
 goes_on_with k bytes longer shorter = after_byte k (clear bytes) longer shorter
 
 -- each operator is the longest of the shells at its place; the text is what stands behind its first byte
@@ -81,14 +81,14 @@ less_at bs = goes_on_with 60 bs here_at (goes_on_with 38 bs (λ cs. (LessAnd, cs
 unfoldable pub great_at : Text → Op × Text
 great_at bs = goes_on_with 62 bs (λ cs. (DGreat, cs)) (goes_on_with 38 bs (λ cs. (GreatAnd, cs)) (goes_on_with 124 bs (λ cs. (Other, cs)) (Great, bs)))
 
-abbrev is_angle : ℕ → Bool
+abbrev pub is_angle : ℕ → Bool
 is_angle b = b == 60 || b == 62
 
 -- digits in front, and what stands behind them: a descriptor, what isn't read, or a word
-abbrev digits_word : Text → Text × Text → Op × Text
+abbrev pub digits_word : Text → Text × Text → Op × Text
 digits_word bytes run = if starts is_angle run.1 then (if length run.0 == 1 then (Io, run.1) else (Other, bytes)) else (Word, bytes)
 
-abbrev word_at : Text → Op × Text
+abbrev pub word_at : Text → Op × Text
 word_at bytes = if starts is_digit bytes then digits_word bytes (digit_run bytes) else (Word, bytes)
 
 -- The token at the front, and what follows it; what begins a word stays.
@@ -207,7 +207,7 @@ behind k [] = None
 behind k (b ∷ bs) = if b == k then Some bs else None
 
 infixl 10 ◌>>=◌
-abbrev ◌>>=◌ : {A B : Type 0} → Option A → (A → Option B) → Option B
+abbrev pub ◌>>=◌ : {A B : Type 0} → Option A → (A → Option B) → Option B
 (Some x) >>= f = f x
 None >>= f = None
 
