@@ -107,7 +107,7 @@ dollar_param bytes = behind 36 (clear bytes) >>= λ rest. param_at (clear rest)
 unfoldable pub dollar_head : Text → Option (Head × Text)
 dollar_head bytes = behind_two 36 123 bytes >>= λ rest. head_at (clear rest)
 
-abbrev is_open : Text → Bool
+abbrev pub is_open : Text → Bool
 is_open bytes = starts (λ b. b == 40) bytes
 
 abbrev pub is_subst : Option Text → Bool
@@ -132,13 +132,13 @@ sum_next bytes = is_something (dollar_sum bytes)
 unfoldable pub brace_next : Text → Bool
 brace_next bytes = is_something (behind_two 36 123 bytes)
 
-abbrev is_closed : Option (Head × Text) → Bool
+abbrev pub is_closed : Option (Head × Text) → Bool
 is_closed None = false
 is_closed (Some (closed p o, rest)) = true
 is_closed (Some (filling p t c, rest)) = false
 is_closed (Some (trimming p s l, rest)) = false
 
-abbrev is_filling : Option (Head × Text) → Bool
+abbrev pub is_filling : Option (Head × Text) → Bool
 is_filling None = false
 is_filling (Some (closed p o, rest)) = false
 is_filling (Some (filling p t c, rest)) = true

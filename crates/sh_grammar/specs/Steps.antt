@@ -170,14 +170,14 @@ run_step k leave s = Some (quiet, record s { depth = s.depth - 1 })
 
 -- ---- tests
 
-abbrev byte_next : ℕ → Text → Bool
+abbrev pub byte_next : ℕ → Text → Bool
 byte_next k bytes = starts (λ b. b == k) (clear bytes)
 
-abbrev escaped_behind : Rattle.sh_grammar.specs.Bytes.Context → Text → Bool
+abbrev pub escaped_behind : Rattle.sh_grammar.specs.Bytes.Context → Text → Bool
 escaped_behind c [] = false
 escaped_behind c (b ∷ bs) = b == 92 && starts (is_escaped c) bs
 
-abbrev dollar_behind : Text → Bool
+abbrev pub dollar_behind : Text → Bool
 dollar_behind [] = false
 dollar_behind (b ∷ bs) = b == 36 && not (is_bare_dollar bs)
 

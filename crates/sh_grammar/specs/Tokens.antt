@@ -211,7 +211,7 @@ abbrev pub ◌>>=◌ : {A B : Type 0} → Option A → (A → Option B) → Opti
 (Some x) >>= f = f x
 None >>= f = None
 
-abbrev is_something : {A : Type 0} → Option A → Bool
+abbrev pub is_something : {A : Type 0} → Option A → Bool
 is_something None = false
 is_something (Some x) = true
 
@@ -222,7 +222,7 @@ assign_at bytes = name_at (gap bytes) >>= λ x. behind 61 (clear x.1) >>= λ res
 unfoldable pub assign_next : Text → Bool
 assign_next bytes = is_something (assign_at bytes)
 
-abbrev opens : Option (Text × Text) → Bool
+abbrev pub opens : Option (Text × Text) → Bool
 opens None = false
 opens (Some x) = is_token Open x.1
 
