@@ -1,20 +1,20 @@
--- Pieces of a language end once, and are read one by one.
+-- Pieces of a language are one each, and are read one by one.
 use Rattle.std.proofs.Common.{◌≡◌, ℕ, ◌+◌, ◌<◌, ◌≤◌, Bool, true, List, Some, None, subst, arith}
 use Rattle.text_grammar.specs.Grammar.{Grammar}
 use Rattle.text_grammar.specs.Ranks.{takes}
 use Rattle.text_grammar.specs.Language.{Language, Ends, one_if}
 use Rattle.text_grammar.specs.Derivations.{Tree, At}
 use Rattle.text_grammar.specs.Values.{kids, vals}
-use Rattle.text_grammar.specs.Place.{IsPlace, EndOnce, Reader, PieceAt, IsPiece, front}
+use Rattle.text_grammar.specs.Place.{IsPlace, WholeAt, EndsStuck, OneEach, Reader, PieceAt, IsPiece, front}
 use Rattle.text_grammar.specs.Later.{Later, PieceWith, next_with}
 use Rattle.text_grammar.proofs.Sound.{one_tree}
 use Rattle.text_grammar.proofs.Bound.{shorter}
 use Rattle.text_grammar.proofs.Rules.{vals_sound, vals_complete}
-use Rattle.text_grammar.proofs.Place.{one_place, front_place, front_more, front_done}
+use Rattle.text_grammar.proofs.Place.{one_place, one_whole, whole_place, front_place, front_more, front_done}
 use Rattle.text_grammar.proofs.Twice.{at_allowed, one_tree_with, vals_twice_sound, vals_twice_complete}
 
-pub pieces_once : {S P T R V : Type 0} (l : Language S P T R V) (g : Grammar P T R) → EndOnce (PieceAt l g)
-pieces_once l g t u s a b p q = (one_tree l t u g s a b p q).1
+pub pieces_once : {S P T R V : Type 0} (l : Language S P T R V) (g : Grammar P T R) → OneEach (PieceAt l g)
+pieces_once l g t u s a b p q = one_tree l t u g s a b p q
 
 pub takes_less : {S P T R V : Type 0} (l : Language S P T R V) → Ends l → (t : Tree R V) (g : Grammar P T R) (s m : S) → takes l.ranks g ≡ true → At l t g s m → l.size m < l.size s
 takes_less l ok t g s m tk h = let i : l.size m + 1 ≤ l.size s = subst (λ (z : Bool). l.size m + one_if z ≤ l.size s) tk (shorter l ok t g s m h) in omega arith
@@ -26,8 +26,8 @@ reads_pieces l ok g f = record {
   less = λ t s m h. takes_less l ok t g s m f.1 h;
 }
 
-pub pieces_with_once : {A S P T R V : Type 0} (l : A → Language S P T R V) (found : S → A) (none : A) → Later l none → (fresh : S → S) (g : Grammar P T R) → EndOnce (PieceWith l found fresh g)
-pieces_with_once l found none ok fresh g t u s a b p q = (one_tree_with l found none ok t u g (fresh s) a b p q).1
+pub pieces_with_once : {A S P T R V : Type 0} (l : A → Language S P T R V) (found : S → A) (none : A) → Later l none → (fresh : S → S) (g : Grammar P T R) → OneEach (PieceWith l found fresh g)
+pieces_with_once l found none ok fresh g t u s a b p q = one_tree_with l found none ok t u g (fresh s) a b p q
 
 less_with : {A S P T R V : Type 0} (l : A → Language S P T R V) (found : S → A) (none : A) → Later l none → (fresh : S → S) → ((s : S) → (l none).size (fresh s) ≤ (l none).size s) → (g : Grammar P T R) → takes (l none).ranks g ≡ true →
     (t : Tree R V) (s m : S) → PieceWith l found fresh g t s m → (l none).size m < (l none).size s
@@ -53,6 +53,12 @@ pub front_place_at : {S P T R V : Type 0} (l : Language S P T R V) → Ends l �
     place + left (front l.size (vals l piece) s) ≡ whole → IsPlace (PieceAt l piece) s left whole place
 front_place_at l ok piece f = front_place (PieceAt l piece) l.size (vals l piece) (reads_pieces l ok piece f)
 
+pub one_whole_at : {S P T R V : Type 0} (l : Language S P T R V) (piece : Grammar P T R) (left : S → ℕ) → EndsStuck (PieceAt l piece) left → (ts us : List (Tree R V)) (s : S) → WholeAt (PieceAt l piece) left ts s → WholeAt (PieceAt l piece) left us s → ts ≡ us
+one_whole_at l piece = one_whole (PieceAt l piece) (pieces_once l piece)
+
+pub whole_place_at : {S P T R V : Type 0} (l : Language S P T R V) (piece : Grammar P T R) (left : S → ℕ) → EndsStuck (PieceAt l piece) left → (ts : List (Tree R V)) (s : S) (whole p : ℕ) → WholeAt (PieceAt l piece) left ts s → IsPlace (PieceAt l piece) s left whole p → p ≡ whole
+whole_place_at l piece = whole_place (PieceAt l piece) (pieces_once l piece)
+
 pub front_more_at : {S P T R V : Type 0} (l : Language S P T R V) → Ends l → (piece : Grammar P T R) → IsPiece l piece → (s e : S) (k : List V) → vals l piece s ≡ Some (k, e) → front l.size (vals l piece) s ≡ front l.size (vals l piece) e
 front_more_at l ok piece f = front_more (PieceAt l piece) l.size (vals l piece) (reads_pieces l ok piece f)
 
@@ -66,6 +72,14 @@ one_place_with l found none ok fresh piece = one_place (PieceWith l found fresh 
 pub front_place_with : {A S P T R V : Type 0} (l : A → Language S P T R V) (found : S → A) (none : A) → Later l none → (fresh : S → S) → ((s : S) → (l none).size (fresh s) ≤ (l none).size s) → (piece : Grammar P T R) → ((a : A) → IsPiece (l a) piece) →
     (s : S) (left : S → ℕ) (whole place : ℕ) → place + left (front (l none).size (next_with l found none fresh piece) s) ≡ whole → IsPlace (PieceWith l found fresh piece) s left whole place
 front_place_with l found none ok fresh fits piece f = front_place (PieceWith l found fresh piece) (l none).size (next_with l found none fresh piece) (reads_pieces_with l found none ok fresh fits piece f)
+
+pub one_whole_with : {A S P T R V : Type 0} (l : A → Language S P T R V) (found : S → A) (none : A) → Later l none → (fresh : S → S) (piece : Grammar P T R) (left : S → ℕ) → EndsStuck (PieceWith l found fresh piece) left → (ts us : List (Tree R V)) (s : S) →
+    WholeAt (PieceWith l found fresh piece) left ts s → WholeAt (PieceWith l found fresh piece) left us s → ts ≡ us
+one_whole_with l found none ok fresh piece = one_whole (PieceWith l found fresh piece) (pieces_with_once l found none ok fresh piece)
+
+pub whole_place_with : {A S P T R V : Type 0} (l : A → Language S P T R V) (found : S → A) (none : A) → Later l none → (fresh : S → S) (piece : Grammar P T R) (left : S → ℕ) → EndsStuck (PieceWith l found fresh piece) left → (ts : List (Tree R V)) (s : S) (whole p : ℕ) →
+    WholeAt (PieceWith l found fresh piece) left ts s → IsPlace (PieceWith l found fresh piece) s left whole p → p ≡ whole
+whole_place_with l found none ok fresh piece = whole_place (PieceWith l found fresh piece) (pieces_with_once l found none ok fresh piece)
 
 pub front_more_with : {A S P T R V : Type 0} (l : A → Language S P T R V) (found : S → A) (none : A) → Later l none → (fresh : S → S) → ((s : S) → (l none).size (fresh s) ≤ (l none).size s) → (piece : Grammar P T R) → ((a : A) → IsPiece (l a) piece) →
     (s e : S) (k : List V) → next_with l found none fresh piece s ≡ Some (k, e) → front (l none).size (next_with l found none fresh piece) s ≡ front (l none).size (next_with l found none fresh piece) e

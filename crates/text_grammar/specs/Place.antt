@@ -22,9 +22,17 @@ pub record IsPlace {X S : Type 0} (piece : X → S → S → Type 0) (s : S) (le
   pub longest : Stuck piece end
   pub is : place + left end ≡ whole
 
--- From one state pieces end at one state.
-abbrev pub EndOnce : {X S : Type 0} → (X → S → S → Type 0) → Type 0
-EndOnce {X} {S} piece = (t u : X) (s a b : S) → piece t s a → piece u s b → a ≡ b
+-- All of a text is these pieces: nothing that counts is left behind them.
+abbrev pub WholeAt : {X S : Type 0} → (X → S → S → Type 0) → (S → ℕ) → List X → S → Type 0
+WholeAt {S = S} piece left ts s = (e : S) × FrontAt piece ts s e × (left e ≡ 0)
+
+-- At most one piece stands from a state, and it ends at one state.
+abbrev pub OneEach : {X S : Type 0} → (X → S → S → Type 0) → Type 0
+OneEach {X} {S} piece = (t u : X) (s a b : S) → piece t s a → piece u s b → (t ≡ u) × (a ≡ b)
+
+-- Where nothing that counts is left, no piece stands.
+abbrev pub EndsStuck : {X S : Type 0} → (X → S → S → Type 0) → (S → ℕ) → Type 0
+EndsStuck {S = S} piece left = (s : S) → left s ≡ 0 → Stuck piece s
 
 -- `next` reads a piece wherever one stands, to its end, and nothing else. A piece takes a byte.
 pub record Reader {X Y S : Type 0} (piece : X → S → S → Type 0) (size : S → ℕ) (next : S → Option (Y × S)) : Type 0 where

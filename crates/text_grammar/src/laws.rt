@@ -7,7 +7,7 @@ ghost use Rattle.text_grammar.specs.Language.{Language, Ends, IsShallow, one_if}
 ghost use Rattle.text_grammar.specs.Derivations.{Tree, At};
 ghost use Rattle.text_grammar.specs.Reading.{read};
 ghost use Rattle.text_grammar.specs.Values.{kids, vals, eval, go, done, ◌&◌};
-ghost use Rattle.text_grammar.specs.Place.{IsPlace, IsPiece, PieceAt, front};
+ghost use Rattle.text_grammar.specs.Place.{IsPlace, WholeAt, EndsStuck, IsPiece, PieceAt, front};
 ghost use Rattle.text_grammar.specs.Later.{Allows, Alike, Later, AtWith, PieceWith, read_twice, vals_twice, next_with};
 
 /// From one state there is at most one derivation by one grammar, and one end.
@@ -51,6 +51,15 @@ pub fn places<S, P, T, R, V>()
     ensures one { (l : Language S P T R V) (piece : Grammar P T R) (s : S) (left : S → ℕ) (whole p q : ℕ) → IsPlace (PieceAt l piece) s left whole p → IsPlace (PieceAt l piece) s left whole q → p ≡ q }
     ensures computed { (l : Language S P T R V) → Ends l → (piece : Grammar P T R) → IsPiece l piece → (s : S) (left : S → ℕ) (whole place : ℕ) →
         place + left (front l.size (vals l piece) s) ≡ whole → IsPlace (PieceAt l piece) s left whole place }
+{}
+
+/// A text that is all pieces is one list of them, and its place is its end.
+
+pub fn whole_texts<S, P, T, R, V>()
+    ensures one { (l : Language S P T R V) (piece : Grammar P T R) (left : S → ℕ) → EndsStuck (PieceAt l piece) left → (ts us : List (Tree R V)) (s : S) →
+        WholeAt (PieceAt l piece) left ts s → WholeAt (PieceAt l piece) left us s → ts ≡ us }
+    ensures place { (l : Language S P T R V) (piece : Grammar P T R) (left : S → ℕ) → EndsStuck (PieceAt l piece) left → (ts : List (Tree R V)) (s : S) (whole p : ℕ) →
+        WholeAt (PieceAt l piece) left ts s → IsPlace (PieceAt l piece) s left whole p → p ≡ whole }
 {}
 
 /// `front` goes on behind each piece that reads, and ends where none does.
@@ -104,6 +113,15 @@ pub fn later_places<A, S, P, T, R, V>()
         IsPlace (PieceWith l found fresh piece) s left whole p → IsPlace (PieceWith l found fresh piece) s left whole q → p ≡ q }
     ensures computed { (l : A → Language S P T R V) (found : S → A) (none : A) → Later l none → (fresh : S → S) → ((s : S) → (l none).size (fresh s) ≤ (l none).size s) → (piece : Grammar P T R) → ((a : A) → IsPiece (l a) piece) →
         (s : S) (left : S → ℕ) (whole place : ℕ) → place + left (front (l none).size (next_with l found none fresh piece) s) ≡ whole → IsPlace (PieceWith l found fresh piece) s left whole place }
+{}
+
+/// Such a text that is all pieces is one list of them, and its place is its end.
+
+pub fn later_texts<A, S, P, T, R, V>()
+    ensures one { (l : A → Language S P T R V) (found : S → A) (none : A) → Later l none → (fresh : S → S) (piece : Grammar P T R) (left : S → ℕ) → EndsStuck (PieceWith l found fresh piece) left → (ts us : List (Tree R V)) (s : S) →
+        WholeAt (PieceWith l found fresh piece) left ts s → WholeAt (PieceWith l found fresh piece) left us s → ts ≡ us }
+    ensures place { (l : A → Language S P T R V) (found : S → A) (none : A) → Later l none → (fresh : S → S) (piece : Grammar P T R) (left : S → ℕ) → EndsStuck (PieceWith l found fresh piece) left → (ts : List (Tree R V)) (s : S) (whole p : ℕ) →
+        WholeAt (PieceWith l found fresh piece) left ts s → IsPlace (PieceWith l found fresh piece) s left whole p → p ≡ whole }
 {}
 
 /// The same two laws of such a text's front.
