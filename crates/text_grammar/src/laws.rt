@@ -54,7 +54,6 @@ pub fn places<S, P, T, R, V>()
 {}
 
 /// A text that is all pieces is one list of them, and its place is its end.
-
 pub fn whole_texts<S, P, T, R, V>()
     ensures one { (l : Language S P T R V) (piece : Grammar P T R) (left : S → ℕ) → EndsStuck (PieceAt l piece) left → (ts us : List (Tree R V)) (s : S) →
         WholeAt (PieceAt l piece) left ts s → WholeAt (PieceAt l piece) left us s → ts ≡ us }
@@ -116,7 +115,6 @@ pub fn later_places<A, S, P, T, R, V>()
 {}
 
 /// Such a text that is all pieces is one list of them, and its place is its end.
-
 pub fn later_texts<A, S, P, T, R, V>()
     ensures one { (l : A → Language S P T R V) (found : S → A) (none : A) → Later l none → (fresh : S → S) (piece : Grammar P T R) (left : S → ℕ) → EndsStuck (PieceWith l found fresh piece) left → (ts us : List (Tree R V)) (s : S) →
         WholeAt (PieceWith l found fresh piece) left ts s → WholeAt (PieceWith l found fresh piece) left us s → ts ≡ us }
