@@ -3,13 +3,15 @@ use Rattle.std.proofs.Common.{◌≡◌, ℕ, suc, ◌+◌, ◌≤◌, Bool, tru
 use Rattle.std.specs.Prelude.{take, nat_le, ◌==◌}
 use Rattle.std.specs.List.{prefix_len}
 use Rattle.std.proofs.lemmas.List.{length-drop}
-use Rattle.text_grammar.specs.Grammar.{Leaf, quiet, said, rule}
+use Rattle.text_grammar.specs.Grammar.{Leaf, quiet, said, step, star, rule, ◌then◌}
 use Rattle.text_grammar.specs.Ranks.{takes, shallow, small}
 use Rattle.text_grammar.specs.Language.{Ends, one_if}
 use Rattle.text_grammar.specs.Reading.{parse, read}
-use Rattle.text_grammar.specs.Shapes.{nil, cons, atom, branch, vals}
-use Rattle.text_grammar.specs.Place.{front, front_in}
-use Rattle.text_grammar.specs.Example.{Step, opens, closes, letters, ends, Rule, text, item, word, brackets, Bytes, byte, cut, is_letter, run_step, step_takes, example}
+use Rattle.text_grammar.specs.Shapes.{nil, cons, atom, branch, vals, go, done}
+use Rattle.text_grammar.specs.Place.{IsPlace, IsPiece, front, front_in}
+use Rattle.text_grammar.specs.Example.{Step, opens, closes, letters, ends, Rule, text, item, word, brackets, Bytes, byte, cut, is_letter, run_step, holds, at_item, step_takes, example}
+use Rattle.text_grammar.proofs.Rules.{rule_go}
+use Rattle.text_grammar.proofs.Place.{front_place}
 use Rattle.text_grammar.proofs.Tools.{chosen, some_is}
 
 -- ---- what it owes
@@ -99,3 +101,17 @@ open_bracket = refl
 stray_bracket : front example (rule item) (97 ∷ 41 ∷ []) ≡ 41 ∷ []
 unfolding example front front_in read parse
 stray_bracket = refl
+
+item_is_piece : IsPiece example (rule item)
+unfolding example
+item_is_piece = (refl, refl)
+
+-- so the place of the error in `a)` is 1
+stray_place : IsPlace example (rule item) (97 ∷ 41 ∷ []) (λ bs. length bs) 2 1
+stray_place = front_place example example_ends (rule item) item_is_piece (97 ∷ 41 ∷ []) (λ bs. length bs) 2 1 (ap (λ (bs : Bytes). 1 + length bs) stray_bracket)
+
+-- ---- as code reads it, one function a rule
+
+brackets_go : (bs : Bytes) → vals example (rule brackets) bs ≡ done true brackets (go run_step holds (vals example) (step opens then star at_item (rule item) then step closes) nil bs)
+unfolding example
+brackets_go bs = rule_go example example_ends brackets bs

@@ -5,5 +5,5 @@ pub mod Levels
 pub mod Rules
 pub mod Loops
 pub mod Place
-pub mod Twice
+pub mod Moves
 pub mod Example

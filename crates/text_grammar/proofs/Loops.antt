@@ -5,8 +5,8 @@ use Rattle.std.proofs.lemmas.List.{map_push}
 use Rattle.text_grammar.specs.Grammar.{Grammar, star}
 use Rattle.text_grammar.specs.Ranks.{Ranks, takes, shallow, small}
 use Rattle.text_grammar.specs.Language.{Language, Ends, one_if}
-use Rattle.text_grammar.specs.Shapes.{Shapes, nil, joined, vals, behind}
-use Rattle.text_grammar.specs.Answers.{FailsAs, joins, views}
+use Rattle.text_grammar.specs.Shapes.{Shape, Shapes, nil, cons, joined, one, vals, behind}
+use Rattle.text_grammar.specs.Answers.{FailsAs, joins, views, each_one}
 use Rattle.text_grammar.proofs.Tools.{both_true}
 use Rattle.text_grammar.proofs.Bound.{no_zero}
 use Rattle.text_grammar.proofs.Levels.{eval_at, star_is}
@@ -19,6 +19,11 @@ joins_push (y ∷ xs) x = ap (joined y) (joins_push xs x) ∙ sym (joined_more y
 -- the values of a list with one more
 pub views_push : {X R V : Type 0} (view : X → Shapes R V) (xs : List X) (x : X) → views view (xs ++ x ∷ []) ≡ joined (views view xs) (view x)
 views_push view xs x = ap joins (map_push view xs x) ∙ joins_push (map view xs) (view x)
+
+-- the shapes of values that are one shape each, as a fold over a tree gives them
+pub views_each : {X R V : Type 0} (view : X → Shape R V) (xs : List X) → joins (map one (map view xs)) ≡ views (each_one view) xs
+views_each view [] = refl
+views_each view (x ∷ xs) = ap (cons (view x)) (views_each view xs)
 
 -- one more value is what was read in front of the rest
 pub behind_push : {S X R V : Type 0} (view : X → Shapes R V) (xs : List X) (x : X) (o : Option (Shapes R V × S)) → behind (views view (xs ++ x ∷ [])) o ≡ behind (views view xs) (behind (view x) o)

@@ -9,7 +9,7 @@ use Rattle.text_grammar.specs.Shapes.{Shapes, nil, cons, joined, kids, seen, val
 use Rattle.text_grammar.proofs.Tools.{some_is}
 use Rattle.text_grammar.proofs.Sound.{sound_in}
 use Rattle.text_grammar.proofs.Bound.{complete, sound, shorter}
-use Rattle.text_grammar.proofs.Levels.{eval_at, rule_is, level}
+use Rattle.text_grammar.proofs.Levels.{eval_at, rule_is, eval_is, level}
 
 pub joined_nil : {R V : Type 0} (xs : Shapes R V) → joined xs nil ≡ xs
 joined_nil nil = refl
@@ -70,6 +70,10 @@ go_is l (rule r) xs s = refl
 -- A rule, one level at a time: the contract of a function that reads it.
 pub rule_go : {S P T R V : Type 0} (l : Language S P T R V) → Ends l → (r : R) (s : S) → vals l (rule r) s ≡ done (l.has_node r) r (go l.run_step l.holds (vals l) (l.body r) nil s)
 rule_go l ok r s = rule_is l ok r s ∙ ap (done (l.has_node r) r) (sym (go_is l (l.body r) nil s ∙ behind_nil (eval_at l (l.body r) s)))
+
+-- The same of a grammar that is no rule.
+pub grammar_go : {S P T R V : Type 0} (l : Language S P T R V) → Ends l → (g : Grammar P T R) (s : S) → IsShallow l g → small l.ranks g ≡ true → vals l g s ≡ go l.run_step l.holds (vals l) g nil s
+grammar_go l ok g s f sm = eval_is l ok g s f sm ∙ sym (go_is l g nil s ∙ behind_nil (eval_at l g s))
 
 -- ---- values and derivations
 

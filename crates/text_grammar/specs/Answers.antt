@@ -1,6 +1,6 @@
 -- What code that reads answers, and the values of a list.
 use Rattle.std.specs.Prelude.{◌≡◌, Bool, true, false, List, [], ◌∷◌, map, Option, Some, None, Result, Ok, Err}
-use Rattle.text_grammar.specs.Shapes.{Shapes, nil, joined}
+use Rattle.text_grammar.specs.Shapes.{Shape, Shapes, nil, joined, one}
 
 -- A fault that says nothing, as want of memory does, or that nothing reads.
 abbrev pub FailsAs : {Y : Type 0} → Bool → Option Y → Type 0
@@ -19,3 +19,7 @@ joins (x ∷ xs) = joined x (joins xs)
 -- the shapes of a list's values, one behind the other
 abbrev pub views : {X R V : Type 0} → (X → Shapes R V) → List X → Shapes R V
 views view xs = joins (map view xs)
+
+-- a value that is one shape
+abbrev pub each_one : {X R V : Type 0} → (X → Shape R V) → X → Shapes R V
+each_one view x = one (view x)

@@ -38,9 +38,10 @@ pub fn shorter<S, P, T, R, V>()
 
 /// Reading goes one level of the grammar at a time: a rule is its body and its node, and a repetition is a turn and
 /// the repetition again. So there is one function of code for each rule, and one loop for each repetition.
-#[tactic(auto, using(crate::proofs::Rules::rule_go, crate::proofs::Levels::star_is))]
+#[tactic(auto, using(crate::proofs::Rules::rule_go, crate::proofs::Rules::grammar_go, crate::proofs::Levels::star_is))]
 pub fn one_level<S, P, T, R, V>()
     ensures rules { (l : Language S P T R V) → Ends l → (r : R) (s : S) → vals l (rule r) s ≡ done (l.has_node r) r (go l.run_step l.holds (vals l) (l.body r) nil s) }
+    ensures grammars { (l : Language S P T R V) → Ends l → (g : Grammar P T R) (s : S) → IsShallow l g → small l.ranks g ≡ true → vals l g s ≡ go l.run_step l.holds (vals l) g nil s }
     ensures repetitions { (l : Language S P T R V) → Ends l → (p : T) (g : Grammar P T R) (s : S) → small l.ranks (star p g) ≡ true →
         vals l (star p g) s ≡ (if l.holds p s then (eval l.run_step l.holds (vals l) g s & vals l (star p g)) else Some (nil, s)) }
 {}
@@ -62,7 +63,7 @@ pub fn fronts<S, P, T, R, V>()
 
 /// Two languages that differ only in what steps give to the tree read the same texts, and have the same places of
 /// errors.
-#[tactic(auto, using(crate::proofs::Twice::at_alike, crate::proofs::Twice::place_alike))]
+#[tactic(auto, using(crate::proofs::Moves::at_alike, crate::proofs::Moves::place_alike))]
 pub fn alike<S, P, T, R, V, W>()
     ensures reads { (l : Language S P T R V) (m : Language S P T R W) → Alike l m → (t : Tree R V) (g : Grammar P T R) (s e : S) → At l t g s e → (u : Tree R W) × At m u g s e }
     ensures places { (l : Language S P T R V) (m : Language S P T R W) → Alike l m → Alike m l → (piece : Grammar P T R) (s : S) (left : S → ℕ) (whole place : ℕ) →
@@ -70,16 +71,16 @@ pub fn alike<S, P, T, R, V, W>()
 {}
 
 /// Where the tree holds what only comes later in the text, as the bodies of here-documents: there is at most one
-/// tree. A first reading, with whatever for what comes, tells whether there is one, and what comes; a second one,
-/// with that, gives the tree.
-#[tactic(auto, using(crate::proofs::Twice::one_tree_with, crate::proofs::Twice::first_none, crate::proofs::Twice::second_reads, crate::proofs::Twice::second_ends))]
-pub fn later<A, S, P, T, R, V>()
+/// tree. A first reading, with whatever in the place of what comes, tells whether there is one, and what comes; a
+/// second one, with that, gives the tree.
+#[tactic(auto, using(crate::proofs::Moves::one_tree_with, crate::proofs::Moves::first_none, crate::proofs::Moves::first_ends, crate::proofs::Moves::second_reads))]
+pub fn twice<A, S, P, T, R, V>()
     ensures one { (l : A → Language S P T R V) (found : S → A) → ((a b : A) → Alike (l a) (l b)) → (t u : Tree R V) (g : Grammar P T R) (s a b : S) →
         AtWith l found t g s a → AtWith l found u g s b → (t ≡ u) × (a ≡ b) }
-    ensures first { (l : A → Language S P T R V) (found : S → A) → ((a b : A) → Alike (l a) (l b)) → ((a : A) → Ends (l a)) → (g : Grammar P T R) (s : S) (a : A) →
-        IsShallow (l a) g → read (l a) g s ≡ None → (t : Tree R V) (e : S) → AtWith l found t g s e → ⊥ }
-    ensures second { (l : A → Language S P T R V) (found : S → A) → ((a b : A) → Alike (l a) (l b)) → ((a : A) → Ends (l a)) → (g : Grammar P T R) (s : S) (a : A) (x : Tree R V × S) →
-        IsShallow (l (found x.1)) g → read (l a) g s ≡ Some x → (t : Tree R V) × (read (l (found x.1)) g s ≡ Some (t, x.1)) × AtWith l found t g s x.1 }
-    ensures end { (l : A → Language S P T R V) (found : S → A) → ((a b : A) → Alike (l a) (l b)) → (g : Grammar P T R) (s : S) (a : A) (x : Tree R V × S) →
-        read (l a) g s ≡ Some x → (t : Tree R V) (e : S) → AtWith l found t g s e → e ≡ x.1 }
+    ensures none { (l : A → Language S P T R V) (found : S → A) → ((a b : A) → Alike (l a) (l b)) → ((a : A) → Ends (l a)) → (g : Grammar P T R) (s : S) (a : A) →
+        IsShallow (l a) g → vals (l a) g s ≡ None → (t : Tree R V) (e : S) → AtWith l found t g s e → ⊥ }
+    ensures end { (l : A → Language S P T R V) (found : S → A) → ((a b : A) → Alike (l a) (l b)) → (g : Grammar P T R) (s : S) (a : A) (x : Shapes R V × S) →
+        vals (l a) g s ≡ Some x → (t : Tree R V) (e : S) → AtWith l found t g s e → e ≡ x.1 }
+    ensures tree { (l : A → Language S P T R V) (found : S → A) → ((a b : A) → Alike (l a) (l b)) → ((a : A) → Ends (l a)) → (g : Grammar P T R) (s : S) (a : A) (x : Shapes R V × S) →
+        IsShallow (l (found x.1)) g → vals (l a) g s ≡ Some x → (t : Tree R V) × AtWith l found t g s x.1 × (vals (l (found x.1)) g s ≡ Some (kids (l (found x.1)) t, x.1)) }
 {}

@@ -1,6 +1,11 @@
-//! Grammars as data.
+//! Grammars as data, for every language: a table of rules, steps and tests, the derivations that it spells, and the
+//! laws of reading. Nothing here is of one language.
+//! It promises for each table that ends: a text has one derivation at most, what is read is what is spelled, code
+//! can read it one rule a function, and a syntax error has one place (`laws`).
+//! Read `specs/Grammar`, `Ranks`, `Language`, `Derivations`, `Reading`, `Shapes`, `Answers`, `Place`, `Later`, then
+//! `laws`; `specs/Example` and `proofs/Example` show how a language is made.
 #![tactic(auto)]
 
 mod laws;
 
-pub use laws::{alike, fronts, later, one_level, one_tree, places, reading, shorter, values};
+pub use laws::{alike, fronts, one_level, one_tree, places, reading, shorter, twice, values};

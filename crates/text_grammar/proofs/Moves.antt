@@ -3,11 +3,11 @@ use Rattle.std.proofs.Common.{◌≡◌, ℕ, List, [], ◌∷◌, Some, None, s
 use Rattle.text_grammar.specs.Grammar.{Grammar, pass, step, seq, choose, star, rule}
 use Rattle.text_grammar.specs.Language.{Language, Ends, IsShallow}
 use Rattle.text_grammar.specs.Derivations.{Tree, empty, leaf, both, first, second, more, node, At}
-use Rattle.text_grammar.specs.Reading.{read}
+use Rattle.text_grammar.specs.Shapes.{Shapes, kids, vals}
 use Rattle.text_grammar.specs.Place.{FrontAt, IsPlace}
 use Rattle.text_grammar.specs.Later.{Alike, AtWith}
 use Rattle.text_grammar.proofs.Sound.{one_tree}
-use Rattle.text_grammar.proofs.Bound.{complete, sound}
+use Rattle.text_grammar.proofs.Rules.{vals_sound, vals_complete, vals_none}
 
 -- the other language reads the same text
 pub at_alike : {S P T R V W : Type 0} (l : Language S P T R V) (m : Language S P T R W) → Alike l m → (t : Tree R V) (g : Grammar P T R) (s e : S) → At l t g s e → (u : Tree R W) × At m u g s e
@@ -27,12 +27,6 @@ at_alike l m same (more t u) (star p g) s e a =
 at_alike {P = P} {T = T} {R = R} l m same (node q t) (rule r) s e a =
     let i = at_alike l m same t (l.body r) s e a.1 in (node q i.0, (a.0, subst (λ (z : Grammar P T R). At m i.0 z s e) (same.body r) i.1))
 at_alike l m same t g s e a = absurd a
-
--- what the other language doesn't read, this one doesn't
-pub none_alike : {S P T R V W : Type 0} (l : Language S P T R V) (m : Language S P T R W) → Alike l m → Ends m → (g : Grammar P T R) (s : S) → IsShallow m g → read m g s ≡ None → (t : Tree R V) (e : S) → At l t g s e → ⊥
-none_alike l m same ok g s f n t e h =
-    let a = at_alike l m same t g s e h in
-    let c = complete m ok a.0 g s e f a.1 in absurd cc
 
 -- both readings end at one state
 pub end_alike : {S P T R V W : Type 0} (l : Language S P T R V) (m : Language S P T R W) → Alike l m → (t : Tree R V) (u : Tree R W) (g : Grammar P T R) (s a b : S) → At l t g s a → At m u g s b → a ≡ b
@@ -61,18 +55,20 @@ one_tree_with {S = S} l found same t u g s a b p q =
     ((one_tree (l (found a)) t u g s a b p r).0, e)
 
 -- what doesn't read with anything doesn't read
-pub first_none : {A S P T R V : Type 0} (l : A → Language S P T R V) (found : S → A) → ((a b : A) → Alike (l a) (l b)) → ((a : A) → Ends (l a)) → (g : Grammar P T R) (s : S) (a : A) → IsShallow (l a) g → read (l a) g s ≡ None →
+pub first_none : {A S P T R V : Type 0} (l : A → Language S P T R V) (found : S → A) → ((a b : A) → Alike (l a) (l b)) → ((a : A) → Ends (l a)) → (g : Grammar P T R) (s : S) (a : A) → IsShallow (l a) g → vals (l a) g s ≡ None →
     (t : Tree R V) (e : S) → AtWith l found t g s e → ⊥
-first_none l found same ok g s a f n t e h = none_alike (l (found e)) (l a) (same (found e) a) (ok a) g s f n t e h
+first_none l found same ok g s a f n t e h =
+    let i = at_alike (l (found e)) (l a) (same (found e) a) t g s e h in vals_none (l a) (ok a) g s f n i.0 e i.1
 
 -- what reads with anything reads with what was found, and ends where that did
-pub second_reads : {A S P T R V : Type 0} (l : A → Language S P T R V) (found : S → A) → ((a b : A) → Alike (l a) (l b)) → ((a : A) → Ends (l a)) → (g : Grammar P T R) (s : S) (a : A) (x : Tree R V × S) → IsShallow (l (found x.1)) g → read (l a) g s ≡ Some x →
-    (t : Tree R V) × (read (l (found x.1)) g s ≡ Some (t, x.1)) × AtWith l found t g s x.1
+pub second_reads : {A S P T R V : Type 0} (l : A → Language S P T R V) (found : S → A) → ((a b : A) → Alike (l a) (l b)) → ((a : A) → Ends (l a)) → (g : Grammar P T R) (s : S) (a : A) (x : Shapes R V × S) → IsShallow (l (found x.1)) g → vals (l a) g s ≡ Some x →
+    (t : Tree R V) × AtWith l found t g s x.1 × (vals (l (found x.1)) g s ≡ Some (kids (l (found x.1)) t, x.1))
 second_reads l found same ok g s a x f e =
-    let h = sound (l a) g s x e in
-    let i = at_alike (l a) (l (found x.1)) (same a (found x.1)) x.0 g s x.1 h in
-    (i.0, complete (l (found x.1)) (ok (found x.1)) i.0 g s x.1 f i.1, i.1)
+    let h = vals_sound (l a) g s x e in
+    let i = at_alike (l a) (l (found x.1)) (same a (found x.1)) h.0 g s x.1 h.1 in
+    (i.0, i.1, vals_complete (l (found x.1)) (ok (found x.1)) i.0 g s x.1 f i.1)
 
-pub second_ends : {A S P T R V : Type 0} (l : A → Language S P T R V) (found : S → A) → ((a b : A) → Alike (l a) (l b)) → (g : Grammar P T R) (s : S) (a : A) (x : Tree R V × S) → read (l a) g s ≡ Some x →
+-- and no tree ends elsewhere
+pub first_ends : {A S P T R V : Type 0} (l : A → Language S P T R V) (found : S → A) → ((a b : A) → Alike (l a) (l b)) → (g : Grammar P T R) (s : S) (a : A) (x : Shapes R V × S) → vals (l a) g s ≡ Some x →
     (t : Tree R V) (e : S) → AtWith l found t g s e → e ≡ x.1
-second_ends l found same g s a x r t e h = end_alike (l (found e)) (l a) (same (found e) a) t x.0 g s e x.1 h (sound (l a) g s x r)
+first_ends l found same g s a x r t e h = let i = vals_sound (l a) g s x r in end_alike (l (found e)) (l a) (same (found e) a) t i.0 g s e x.1 h i.1
