@@ -1,5 +1,5 @@
 -- The example is a language, and four of its texts.
-use Rattle.std.proofs.Common.{◌≡◌, ℕ, suc, ◌+◌, ◌≤◌, Bool, true, false, cond, [], ◌∷◌, length, drop, Some, None, refl, ap, inl, inr, arith}
+use Rattle.std.proofs.Common.{◌≡◌, ℕ, suc, ◌+◌, ◌≤◌, Bool, true, false, cond, List, [], ◌∷◌, ◌++◌, length, drop, Option, Some, None, refl, ap, inl, inr, arith}
 use Rattle.std.specs.Prelude.{take, nat_le, ◌==◌}
 use Rattle.std.specs.List.{prefix_len}
 use Rattle.std.proofs.lemmas.List.{length-drop}
@@ -7,10 +7,11 @@ use Rattle.text_grammar.specs.Grammar.{Leaf, quiet, said, step, star, rule, ◌t
 use Rattle.text_grammar.specs.Ranks.{takes, shallow, small}
 use Rattle.text_grammar.specs.Language.{Ends, one_if}
 use Rattle.text_grammar.specs.Reading.{parse, read}
-use Rattle.text_grammar.specs.Shapes.{nil, cons, atom, branch, vals, go, done}
+use Rattle.text_grammar.specs.Shapes.{Shapes, nil, cons, atom, branch, vals, go, done}
 use Rattle.text_grammar.specs.Place.{IsPlace, IsPiece, front, front_in}
 use Rattle.text_grammar.specs.Example.{Step, opens, closes, letters, ends, Rule, text, item, word, brackets, Bytes, byte, cut, is_letter, run_step, holds, at_item, step_takes, example}
 use Rattle.text_grammar.proofs.Rules.{rule_go}
+use Rattle.text_grammar.proofs.Loops.{Loop, Loop-more}
 use Rattle.text_grammar.proofs.Place.{front_place}
 use Rattle.text_grammar.proofs.Tools.{chosen, some_is}
 
@@ -115,3 +116,9 @@ stray_place = front_place example example_ends (rule item) item_is_piece (97 ∷
 brackets_go : (bs : Bytes) → vals example (rule brackets) bs ≡ done true brackets (go run_step holds (vals example) (step opens then star at_item (rule item) then step closes) nil bs)
 unfolding example
 brackets_go bs = rule_go example example_ends brackets bs
+
+-- a turn of the loop over items
+items_more : {X : Type 0} (view : X → Shapes Rule Bytes) (total : Option (Shapes Rule Bytes × Bytes)) (n : ℕ) (bs m : Bytes) (front : List X) (x : X) → holds at_item bs ≡ true → vals example (rule item) bs ≡ Some (view x, m) →
+    Loop (λ s. length s) (vals example (star at_item (rule item))) view total n bs front → Loop (λ s. length s) (vals example (star at_item (rule item))) view total n m (front ++ x ∷ [])
+unfolding example
+items_more view total n bs m front x = Loop-more example example_ends view at_item (rule item) total n bs m front x refl
