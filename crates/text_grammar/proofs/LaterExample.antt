@@ -1,13 +1,13 @@
 -- The example with notes: what it owes, and what two readings give.
-use Rattle.std.proofs.Common.{◌≡◌, ℕ, suc, ◌+◌, ◌≤◌, Bool, true, false, List, [], ◌∷◌, length, Option, Some, None, refl, ap, inl, inr, arith}
-use Rattle.std.specs.Prelude.{nat_le, ◌==◌, ◌||◌, if◌then◌else◌}
+use Rattle.std.proofs.Common.{◌≡◌, ℕ, suc, ◌+◌, ◌≤◌, true, List, [], ◌∷◌, length, Option, Some, None, refl, ap, inl, inr, arith}
+use Rattle.std.specs.Prelude.{nat_le, ◌==◌, ◌||◌}
 use Rattle.text_grammar.specs.Grammar.{Leaf, quiet, said, rule}
 use Rattle.text_grammar.specs.Ranks.{takes, shallow, small}
-use Rattle.text_grammar.specs.Language.{Ends, one_if}
+use Rattle.text_grammar.specs.Language.{Ends}
 use Rattle.text_grammar.specs.Reading.{parse, read}
 use Rattle.text_grammar.specs.Values.{vals}
-use Rattle.text_grammar.specs.Later.{Allows, Later, vals_twice}
-use Rattle.text_grammar.specs.LaterExample.{NoteStep, letter, mark, notes, NoteRule, line, noted, Noting, Noted, byte_of, note_of, pair_of, note_at, behind_mark, read_note, at_letter, at_mark, at_notes, note_step, note_language, note_body, starts_at}
+use Rattle.text_grammar.specs.Later.{Later, vals_twice}
+use Rattle.text_grammar.specs.LaterExample.{NoteStep, letter, mark, notes, NoteRule, line, noted, Noting, Noted, byte_of, note_of, pair_of, note_at, behind_mark, read_note, at_letter, at_mark, at_notes, note_step, note_language, starts_at}
 use Rattle.text_grammar.proofs.Tools.{chosen, some_is}
 
 -- ---- steps leave fewer bytes

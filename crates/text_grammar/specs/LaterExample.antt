@@ -1,6 +1,6 @@
 -- Notes that stand behind a text, to show what `Later` is for: `a*b*;xy` has the letter a with the note x, and b
 -- with the note y. The mark `*` holds its note, which only comes later; and a note must read: `!` is none.
-use Rattle.std.specs.Prelude.{ℕ, zero, suc, Bool, true, false, ◌||◌, not, ◌==◌, List, [], ◌∷◌, length, Option, Some, None, if◌then◌else◌}
+use Rattle.std.specs.Prelude.{ℕ, zero, suc, Bool, true, ◌||◌, not, ◌==◌, List, [], ◌∷◌, length, Option, Some, None, if◌then◌else◌}
 use Rattle.text_grammar.specs.Grammar.{Grammar, step, star, rule, ◌then◌, Leaf, quiet, said}
 use Rattle.text_grammar.specs.Language.{Language}
 

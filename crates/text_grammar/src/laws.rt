@@ -36,11 +36,12 @@ pub fn shorter<S, P, T, R, V>()
     ensures { (l : Language S P T R V) → Ends l → (t : Tree R V) (g : Grammar P T R) (s e : S) → At l t g s e → l.size e + one_if (takes l.ranks g) ≤ l.size s }
 {}
 
-/// Reading goes one level of the grammar at a time: a rule is its body and its node, and a repetition is a turn and
+/// Reading goes one level of the grammar at a time: a rule is its body and what it makes of that, and a repetition is a turn and
 /// the repetition again. So there is one function of code for each rule, and one loop for each repetition.
-#[tactic(auto, using(crate::proofs::Rules::rule_go, crate::proofs::Levels::star_is))]
+#[tactic(auto, using(crate::proofs::Rules::rule_go, crate::proofs::Rules::grammar_go, crate::proofs::Levels::star_is))]
 pub fn one_level<S, P, T, R, V>()
     ensures rules { (l : Language S P T R V) → Ends l → (r : R) (s : S) → vals l (rule r) s ≡ done (l.act r) (go l.run_step l.holds (vals l) (l.body r) [] s) }
+    ensures grammars { (l : Language S P T R V) → Ends l → (g : Grammar P T R) (s : S) → IsShallow l g → small l.ranks g ≡ true → vals l g s ≡ go l.run_step l.holds (vals l) g [] s }
     ensures repetitions { (l : Language S P T R V) → Ends l → (p : T) (g : Grammar P T R) (s : S) → small l.ranks (star p g) ≡ true →
         vals l (star p g) s ≡ (if l.holds p s then (eval l.run_step l.holds (vals l) g s & vals l (star p g)) else Some ([], s)) }
 {}
