@@ -1,12 +1,12 @@
 -- Pieces of a language are one each, and are read one by one.
-use Rattle.std.proofs.Common.{◌≡◌, ℕ, ◌+◌, ◌<◌, ◌≤◌, Bool, true, List, Some, None, subst, arith}
+use Rattle.std.proofs.Common.{◌≡◌, ℕ, ◌+◌, ◌<◌, ◌≤◌, Bool, true, List, Some, None, sym, ap, subst, ◌∙◌, arith}
 use Rattle.text_grammar.specs.Grammar.{Grammar}
 use Rattle.text_grammar.specs.Ranks.{takes}
 use Rattle.text_grammar.specs.Language.{Language, Ends, one_if}
 use Rattle.text_grammar.specs.Derivations.{Tree, At}
 use Rattle.text_grammar.specs.Values.{kids, vals}
-use Rattle.text_grammar.specs.Place.{IsPlace, WholeAt, EndsStuck, OneEach, Reader, PieceAt, IsPiece, front}
-use Rattle.text_grammar.specs.Later.{Later, PieceWith, next_with}
+use Rattle.text_grammar.specs.Place.{IsPlace, WholeAt, EndsStuck, OneEach, Reader, PieceAt, SaysAt, IsPiece, front}
+use Rattle.text_grammar.specs.Later.{Later, PieceWith, SaysWith, next_with}
 use Rattle.text_grammar.proofs.Sound.{one_tree}
 use Rattle.text_grammar.proofs.Bound.{shorter}
 use Rattle.text_grammar.proofs.Rules.{vals_sound, vals_complete}
@@ -43,6 +43,38 @@ reads_pieces_with l found none ok fresh fits g f = record {
   complete = λ t s m h. (kids (l (found m)) t, vals_twice_complete l found none ok t g (fresh s) m (λ a. (f a).0) h);
   less = less_with l found none ok fresh fits g (f none).1;
 }
+
+-- ---- the same of the values
+
+pub says_once : {S P T R V : Type 0} (l : Language S P T R V) (g : Grammar P T R) → OneEach (SaysAt l g)
+says_once l g k j s a b p q = let i = one_tree l p.0 q.0 g s a b p.1 q.1 in (sym p.2 ∙ ap (kids l) i.0 ∙ q.2, i.1)
+
+pub reads_says : {S P T R V : Type 0} (l : Language S P T R V) → Ends l → (g : Grammar P T R) → IsPiece l g → Reader (SaysAt l g) l.size (vals l g)
+reads_says {S} {V = V} l ok g f = record {
+  sound = λ s m y e. (y, vals_sound l g s (y, m) e);
+  complete = λ k s m h. (k, vals_complete l ok h.0 g s m f.0 h.1 ∙ ap (λ (z : List V). Some (z, m)) h.2);
+  less = λ k s m h. takes_less l ok h.0 g s m f.1 h.1;
+}
+
+pub says_with_once : {A S P T R V : Type 0} (l : A → Language S P T R V) (found : S → A) (none : A) → Later l none → (fresh : S → S) (g : Grammar P T R) → OneEach (SaysWith l found fresh g)
+says_with_once {S = S} l found none ok fresh g k j s a b p q =
+    let i = one_tree_with l found none ok p.0 q.0 g (fresh s) a b p.1 q.1 in
+    (sym p.2 ∙ ap (λ (z : S). kids (l (found z)) p.0) i.1 ∙ ap (kids (l (found b))) i.0 ∙ q.2, i.1)
+
+pub reads_says_with : {A S P T R V : Type 0} (l : A → Language S P T R V) (found : S → A) (none : A) → Later l none → (fresh : S → S) → ((s : S) → (l none).size (fresh s) ≤ (l none).size s) →
+    (g : Grammar P T R) → ((a : A) → IsPiece (l a) g) → Reader (SaysWith l found fresh g) (l none).size (next_with l found none fresh g)
+reads_says_with {V = V} l found none ok fresh fits g f = record {
+  sound = λ s m y e. (y, vals_twice_sound l found none ok g (fresh s) (y, m) e);
+  complete = λ k s m h. (k, vals_twice_complete l found none ok h.0 g (fresh s) m (λ a. (f a).0) h.1 ∙ ap (λ (z : List V). Some (z, m)) h.2);
+  less = λ k s m h. less_with l found none ok fresh fits g (f none).1 h.0 s m h.1;
+}
+
+pub one_text_at : {S P T R V : Type 0} (l : Language S P T R V) (piece : Grammar P T R) (left : S → ℕ) → EndsStuck (SaysAt l piece) left → (ks js : List (List V)) (s : S) → WholeAt (SaysAt l piece) left ks s → WholeAt (SaysAt l piece) left js s → ks ≡ js
+one_text_at l piece = one_whole (SaysAt l piece) (says_once l piece)
+
+pub one_text_with : {A S P T R V : Type 0} (l : A → Language S P T R V) (found : S → A) (none : A) → Later l none → (fresh : S → S) (piece : Grammar P T R) (left : S → ℕ) → EndsStuck (SaysWith l found fresh piece) left → (ks js : List (List V)) (s : S) →
+    WholeAt (SaysWith l found fresh piece) left ks s → WholeAt (SaysWith l found fresh piece) left js s → ks ≡ js
+one_text_with l found none ok fresh piece = one_whole (SaysWith l found fresh piece) (says_with_once l found none ok fresh piece)
 
 -- ---- places
 

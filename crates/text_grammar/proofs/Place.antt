@@ -43,7 +43,8 @@ front_push piece (x ∷ xs) t s m e h k = (h.0, h.1, front_push piece xs t h.0 m
 
 -- ---- where the longest front ends
 
-stuck_here : {X Y S : Type 0} (piece : X → S → S → Type 0) (size : S → ℕ) (next : S → Option (Y × S)) → Reader piece size next → (s : S) → next s ≡ None → Stuck piece s
+-- where no piece is read none stands
+pub stuck_here : {X Y S : Type 0} (piece : X → S → S → Type 0) (size : S → ℕ) (next : S → Option (Y × S)) → Reader piece size next → (s : S) → next s ≡ None → Stuck piece s
 stuck_here piece size next reads s e t m h = let c = (reads.complete t s m h).1 in absurd cc
 
 abbrev Longest : {X S : Type 0} → (X → S → S → Type 0) → S → S → Type 0

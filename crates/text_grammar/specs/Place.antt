@@ -4,6 +4,7 @@ use Rattle.text_grammar.specs.Grammar.{Grammar}
 use Rattle.text_grammar.specs.Ranks.{takes}
 use Rattle.text_grammar.specs.Language.{Language, IsShallow}
 use Rattle.text_grammar.specs.Derivations.{Tree, At}
+use Rattle.text_grammar.specs.Values.{kids}
 
 -- Pieces one behind the other, from s to e. `piece t s m`: the piece t stands from s to m.
 abbrev pub FrontAt : {X S : Type 0} → (X → S → S → Type 0) → List X → S → S → Type 0
@@ -58,6 +59,10 @@ front size next s = front_in next (suc (size s)) s
 -- a piece is spelled by this grammar
 abbrev pub PieceAt : {S P T R V : Type 0} → Language S P T R V → Grammar P T R → Tree R V → S → S → Type 0
 PieceAt l g t s m = At l t g s m
+
+-- the values of a piece
+abbrev pub SaysAt : {S P T R V : Type 0} → Language S P T R V → Grammar P T R → List V → S → S → Type 0
+SaysAt {R = R} {V = V} l g k s m = (t : Tree R V) × At l t g s m × (kids l t ≡ k)
 
 -- a grammar of a piece: it takes a byte, and reads in the levels of the language
 abbrev pub IsPiece : {S P T R V : Type 0} → Language S P T R V → Grammar P T R → Type 0

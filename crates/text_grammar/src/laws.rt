@@ -7,8 +7,8 @@ ghost use Rattle.text_grammar.specs.Language.{Language, Ends, IsShallow, one_if}
 ghost use Rattle.text_grammar.specs.Derivations.{Tree, At};
 ghost use Rattle.text_grammar.specs.Reading.{read};
 ghost use Rattle.text_grammar.specs.Values.{kids, vals, eval, go, done, ◌&◌};
-ghost use Rattle.text_grammar.specs.Place.{IsPlace, WholeAt, EndsStuck, IsPiece, PieceAt, front};
-ghost use Rattle.text_grammar.specs.Later.{Allows, Alike, Later, AtWith, PieceWith, read_twice, vals_twice, next_with};
+ghost use Rattle.text_grammar.specs.Place.{IsPlace, WholeAt, EndsStuck, IsPiece, PieceAt, SaysAt, front};
+ghost use Rattle.text_grammar.specs.Later.{Allows, Alike, Later, AtWith, PieceWith, SaysWith, read_twice, vals_twice, next_with};
 
 /// From one state there is at most one derivation by one grammar, and one end.
 #[tactic(auto, using(crate::proofs::Sound::one_tree))]
@@ -60,6 +60,8 @@ pub fn whole_texts<S, P, T, R, V>()
         WholeAt (PieceAt l piece) left ts s → WholeAt (PieceAt l piece) left us s → ts ≡ us }
     ensures place { (l : Language S P T R V) (piece : Grammar P T R) (left : S → ℕ) → EndsStuck (PieceAt l piece) left → (ts : List (Tree R V)) (s : S) (whole p : ℕ) →
         WholeAt (PieceAt l piece) left ts s → IsPlace (PieceAt l piece) s left whole p → p ≡ whole }
+    ensures values { (l : Language S P T R V) (piece : Grammar P T R) (left : S → ℕ) → EndsStuck (SaysAt l piece) left → (ks js : List (List V)) (s : S) →
+        WholeAt (SaysAt l piece) left ks s → WholeAt (SaysAt l piece) left js s → ks ≡ js }
 {}
 
 /// `front` goes on behind each piece that reads, and ends where none does.
@@ -121,6 +123,8 @@ pub fn later_texts<A, S, P, T, R, V>()
         WholeAt (PieceWith l found fresh piece) left ts s → WholeAt (PieceWith l found fresh piece) left us s → ts ≡ us }
     ensures place { (l : A → Language S P T R V) (found : S → A) (none : A) → Later l none → (fresh : S → S) (piece : Grammar P T R) (left : S → ℕ) → EndsStuck (PieceWith l found fresh piece) left → (ts : List (Tree R V)) (s : S) (whole p : ℕ) →
         WholeAt (PieceWith l found fresh piece) left ts s → IsPlace (PieceWith l found fresh piece) s left whole p → p ≡ whole }
+    ensures values { (l : A → Language S P T R V) (found : S → A) (none : A) → Later l none → (fresh : S → S) (piece : Grammar P T R) (left : S → ℕ) → EndsStuck (SaysWith l found fresh piece) left → (ks js : List (List V)) (s : S) →
+        WholeAt (SaysWith l found fresh piece) left ks s → WholeAt (SaysWith l found fresh piece) left js s → ks ≡ js }
 {}
 
 /// The same two laws of such a text's front.

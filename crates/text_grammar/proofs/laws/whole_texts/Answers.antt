@@ -6,3 +6,6 @@ returns-clause-one g c = pieces.one_whole_at
 
 pub returns-clause-place : goal.returns-clause-place
 returns-clause-place g c = pieces.whole_place_at
+
+pub returns-clause-values : goal.returns-clause-values
+returns-clause-values g c = pieces.one_text_at
