@@ -1,15 +1,18 @@
 -- The example is a language, and four of its texts.
-use Rattle.std.proofs.Common.{◌≡◌, ℕ, suc, ◌+◌, ◌≤◌, Bool, true, false, cond, [], ◌∷◌, length, drop, Some, None, refl, ap, inl, inr, arith}
+use Rattle.std.proofs.Common.{◌≡◌, ℕ, suc, ◌+◌, ◌≤◌, Bool, true, false, cond, List, [], ◌∷◌, ◌++◌, length, drop, Option, Some, None, refl, ap, inl, inr, arith}
 use Rattle.std.specs.Prelude.{take, nat_le, ◌==◌}
 use Rattle.std.specs.List.{prefix_len}
 use Rattle.std.proofs.lemmas.List.{length-drop}
-use Rattle.text_grammar.specs.Grammar.{Leaf, quiet, said, rule}
+use Rattle.text_grammar.specs.Grammar.{Leaf, quiet, said, step, star, rule, ◌then◌}
 use Rattle.text_grammar.specs.Ranks.{takes, shallow, small}
 use Rattle.text_grammar.specs.Language.{Ends, one_if}
 use Rattle.text_grammar.specs.Reading.{parse, read}
-use Rattle.text_grammar.specs.Values.{vals}
-use Rattle.text_grammar.specs.Place.{front, front_in}
-use Rattle.text_grammar.specs.Example.{Step, opens, closes, letters, ends, Rule, text, item, word, brackets, Bytes, a_word, a_list, no_item, an_item, Value, letters_of, item_of, byte, cut, is_letter, run_step, step_takes, example}
+use Rattle.text_grammar.specs.Values.{vals, go, done}
+use Rattle.text_grammar.specs.Place.{IsPlace, IsPiece, PieceAt, front, front_in}
+use Rattle.text_grammar.specs.Example.{Step, opens, closes, letters, ends, Rule, text, item, word, brackets, Bytes, a_word, a_list, no_item, an_item, Value, letters_of, item_of, byte, cut, is_letter, run_step, holds, act, at_item, step_takes, example}
+use Rattle.text_grammar.proofs.Rules.{rule_go}
+use Rattle.text_grammar.proofs.Loops.{Loop, Loop-more}
+use Rattle.text_grammar.proofs.Pieces.{front_place_at}
 use Rattle.text_grammar.proofs.Tools.{chosen, some_is}
 
 -- ---- what it owes
@@ -99,3 +102,23 @@ open_bracket = refl
 stray_bracket : front example.size (vals example (rule item)) (97 ∷ 41 ∷ []) ≡ 41 ∷ []
 unfolding example front front_in vals read parse
 stray_bracket = refl
+
+item_is_piece : IsPiece example (rule item)
+unfolding example
+item_is_piece = (refl, refl)
+
+-- so the place of the error in `a)` is 1
+stray_place : IsPlace (PieceAt example (rule item)) (97 ∷ 41 ∷ []) (λ bs. length bs) 2 1
+stray_place = front_place_at example example_ends (rule item) item_is_piece (97 ∷ 41 ∷ []) (λ bs. length bs) 2 1 (ap (λ (bs : Bytes). 1 + length bs) stray_bracket)
+
+-- ---- as code reads it, one function a rule
+
+brackets_go : (bs : Bytes) → vals example (rule brackets) bs ≡ done (act brackets) (go run_step holds (vals example) (step opens then star at_item (rule item) then step closes) [] bs)
+unfolding example
+brackets_go bs = rule_go example example_ends brackets bs
+
+-- a turn of the loop over items
+items_more : {X : Type 0} (view : X → List Value) (total : Option (List Value × Bytes)) (n : ℕ) (bs m : Bytes) (front : List X) (x : X) → holds at_item bs ≡ true → vals example (rule item) bs ≡ Some (view x, m) →
+    Loop (λ s. length s) (vals example (star at_item (rule item))) view total n bs front → Loop (λ s. length s) (vals example (star at_item (rule item))) view total n m (front ++ x ∷ [])
+unfolding example
+items_more view total n bs m front x = Loop-more example example_ends view at_item (rule item) total n bs m front x refl

@@ -8,3 +8,4 @@ pub mod Place
 pub mod Twice
 pub mod Pieces
 pub mod Example
+pub mod LaterExample

@@ -10,7 +10,7 @@ use Rattle.text_grammar.specs.Values.{kids, seen, vals, ◌&◌, stepped, with_l
 use Rattle.text_grammar.proofs.Tools.{some_is}
 use Rattle.text_grammar.proofs.Sound.{sound_in}
 use Rattle.text_grammar.proofs.Bound.{complete, sound, shorter}
-use Rattle.text_grammar.proofs.Levels.{eval_at, rule_is, level}
+use Rattle.text_grammar.proofs.Levels.{eval_at, rule_is, eval_is, level}
 
 -- behind nothing
 pub behind_nil : {S V : Type 0} (o : Option (List V × S)) → behind [] o ≡ o
@@ -63,6 +63,10 @@ go_is l (rule r) xs s = refl
 -- A rule, one level at a time: the contract of a function that reads it.
 pub rule_go : {S P T R V : Type 0} (l : Language S P T R V) → Ends l → (r : R) (s : S) → vals l (rule r) s ≡ done (l.act r) (go l.run_step l.holds (vals l) (l.body r) [] s)
 rule_go l ok r s = rule_is l ok r s ∙ ap (done (l.act r)) (sym (go_is l (l.body r) [] s ∙ behind_nil (eval_at l (l.body r) s)))
+
+-- The same of a grammar that is no rule.
+pub grammar_go : {S P T R V : Type 0} (l : Language S P T R V) → Ends l → (g : Grammar P T R) (s : S) → IsShallow l g → small l.ranks g ≡ true → vals l g s ≡ go l.run_step l.holds (vals l) g [] s
+grammar_go l ok g s f sm = eval_is l ok g s f sm ∙ sym (go_is l g [] s ∙ behind_nil (eval_at l g s))
 
 -- ---- values and derivations
 

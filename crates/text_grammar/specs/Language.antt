@@ -23,9 +23,11 @@ one_if false = 0
 pub record Ends {S P T R V : Type 0} (l : Language S P T R V) : Type 0 where
   -- a step leaves no more bytes than there were, and fewer where it is said to take one
   pub step_fits : (p : P) (s m : S) (x : Leaf V) → l.run_step p s ≡ Some (x, m) → l.size m + one_if (l.ranks.step_takes p) ≤ l.size s
+  -- the tables say of each rule what its body does
   pub rule_takes : (r : R) → takes l.ranks (l.body r) ≡ l.ranks.rule_takes r
   pub rule_shallow : (r : R) → shallow l.ranks (l.body r) (l.ranks.rank r) ≡ true
   pub rule_small : (r : R) → small l.ranks (l.body r) ≡ true
+  -- and the numbers are large enough: a byte adds a level at least, and every rule is below the levels of the language
   pub weighs : nat_le 1 l.ranks.weight ≡ true
   pub rank_below : (r : R) → nat_le (suc (l.ranks.rank r)) l.ranks.levels ≡ true
 

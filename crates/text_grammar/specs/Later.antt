@@ -5,7 +5,7 @@ use Rattle.text_grammar.specs.Grammar.{Grammar, Leaf}
 use Rattle.text_grammar.specs.Language.{Language, Ends}
 use Rattle.text_grammar.specs.Derivations.{Tree, At}
 use Rattle.text_grammar.specs.Reading.{read, ◌>>=◌}
-use Rattle.text_grammar.specs.Values.{vals}
+use Rattle.text_grammar.specs.Values.{kids, vals}
 
 -- What l reads m reads too, with the same state behind it; steps may give other things to the tree.
 pub record Allows {S P T R V W : Type 0} (l : Language S P T R V) (m : Language S P T R W) : Type 0 where
@@ -39,6 +39,10 @@ vals_twice l found none g s = vals (l none) g s >>= λ x. vals (l (found x.1)) g
 -- Pieces that each hold what their own end has found: `fresh` is the state that a piece begins with.
 abbrev pub PieceWith : {A S P T R V : Type 0} → (A → Language S P T R V) → (S → A) → (S → S) → Grammar P T R → Tree R V → S → S → Type 0
 PieceWith l found fresh g t s m = AtWith l found t g (fresh s) m
+
+-- the values of such a piece
+abbrev pub SaysWith : {A S P T R V : Type 0} → (A → Language S P T R V) → (S → A) → (S → S) → Grammar P T R → List V → S → S → Type 0
+SaysWith {R = R} {V = V} l found fresh g k s m = (t : Tree R V) × AtWith l found t g (fresh s) m × (kids (l (found m)) t ≡ k)
 
 -- what the next piece gives
 abbrev pub next_with : {A S P T R V : Type 0} → (A → Language S P T R V) → (S → A) → A → (S → S) → Grammar P T R → S → Option (List V × S)

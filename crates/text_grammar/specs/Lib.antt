@@ -8,3 +8,4 @@ pub mod Answers
 pub mod Place
 pub mod Later
 pub mod Example
+pub mod LaterExample

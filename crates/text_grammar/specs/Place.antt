@@ -4,6 +4,7 @@ use Rattle.text_grammar.specs.Grammar.{Grammar}
 use Rattle.text_grammar.specs.Ranks.{takes}
 use Rattle.text_grammar.specs.Language.{Language, IsShallow}
 use Rattle.text_grammar.specs.Derivations.{Tree, At}
+use Rattle.text_grammar.specs.Values.{kids}
 
 -- Pieces one behind the other, from s to e. `piece t s m`: the piece t stands from s to m.
 abbrev pub FrontAt : {X S : Type 0} → (X → S → S → Type 0) → List X → S → S → Type 0
@@ -22,9 +23,17 @@ pub record IsPlace {X S : Type 0} (piece : X → S → S → Type 0) (s : S) (le
   pub longest : Stuck piece end
   pub is : place + left end ≡ whole
 
--- From one state pieces end at one state.
-abbrev pub EndOnce : {X S : Type 0} → (X → S → S → Type 0) → Type 0
-EndOnce {X} {S} piece = (t u : X) (s a b : S) → piece t s a → piece u s b → a ≡ b
+-- All of a text is these pieces: nothing that counts is left behind them.
+abbrev pub WholeAt : {X S : Type 0} → (X → S → S → Type 0) → (S → ℕ) → List X → S → Type 0
+WholeAt {S = S} piece left ts s = (e : S) × FrontAt piece ts s e × (left e ≡ 0)
+
+-- At most one piece stands from a state, and it ends at one state.
+abbrev pub OneEach : {X S : Type 0} → (X → S → S → Type 0) → Type 0
+OneEach {X} {S} piece = (t u : X) (s a b : S) → piece t s a → piece u s b → (t ≡ u) × (a ≡ b)
+
+-- Where nothing that counts is left, no piece stands.
+abbrev pub EndsStuck : {X S : Type 0} → (X → S → S → Type 0) → (S → ℕ) → Type 0
+EndsStuck {S = S} piece left = (s : S) → left s ≡ 0 → Stuck piece s
 
 -- `next` reads a piece wherever one stands, to its end, and nothing else. A piece takes a byte.
 pub record Reader {X Y S : Type 0} (piece : X → S → S → Type 0) (size : S → ℕ) (next : S → Option (Y × S)) : Type 0 where
@@ -50,6 +59,10 @@ front size next s = front_in next (suc (size s)) s
 -- a piece is spelled by this grammar
 abbrev pub PieceAt : {S P T R V : Type 0} → Language S P T R V → Grammar P T R → Tree R V → S → S → Type 0
 PieceAt l g t s m = At l t g s m
+
+-- the values of a piece
+abbrev pub SaysAt : {S P T R V : Type 0} → Language S P T R V → Grammar P T R → List V → S → S → Type 0
+SaysAt {R = R} {V = V} l g k s m = (t : Tree R V) × At l t g s m × (kids l t ≡ k)
 
 -- a grammar of a piece: it takes a byte, and reads in the levels of the language
 abbrev pub IsPiece : {S P T R V : Type 0} → Language S P T R V → Grammar P T R → Type 0

@@ -7,8 +7,8 @@ ghost use Rattle.text_grammar.specs.Language.{Language, Ends, IsShallow, one_if}
 ghost use Rattle.text_grammar.specs.Derivations.{Tree, At};
 ghost use Rattle.text_grammar.specs.Reading.{read};
 ghost use Rattle.text_grammar.specs.Values.{kids, vals, eval, go, done, ◌&◌};
-ghost use Rattle.text_grammar.specs.Place.{IsPlace, IsPiece, PieceAt, front};
-ghost use Rattle.text_grammar.specs.Later.{Allows, Alike, Later, AtWith, PieceWith, read_twice, vals_twice, next_with};
+ghost use Rattle.text_grammar.specs.Place.{IsPlace, WholeAt, EndsStuck, IsPiece, PieceAt, SaysAt, front};
+ghost use Rattle.text_grammar.specs.Later.{Allows, Alike, Later, AtWith, PieceWith, SaysWith, read_twice, vals_twice, next_with};
 
 /// From one state there is at most one derivation by one grammar, and one end.
 #[tactic(auto, using(crate::proofs::Sound::one_tree))]
@@ -36,11 +36,12 @@ pub fn shorter<S, P, T, R, V>()
     ensures { (l : Language S P T R V) → Ends l → (t : Tree R V) (g : Grammar P T R) (s e : S) → At l t g s e → l.size e + one_if (takes l.ranks g) ≤ l.size s }
 {}
 
-/// Reading goes one level of the grammar at a time: a rule is its body and its node, and a repetition is a turn and
+/// Reading goes one level of the grammar at a time: a rule is its body and what it makes of that, and a repetition is a turn and
 /// the repetition again. So there is one function of code for each rule, and one loop for each repetition.
-#[tactic(auto, using(crate::proofs::Rules::rule_go, crate::proofs::Levels::star_is))]
+#[tactic(auto, using(crate::proofs::Rules::rule_go, crate::proofs::Rules::grammar_go, crate::proofs::Levels::star_is))]
 pub fn one_level<S, P, T, R, V>()
     ensures rules { (l : Language S P T R V) → Ends l → (r : R) (s : S) → vals l (rule r) s ≡ done (l.act r) (go l.run_step l.holds (vals l) (l.body r) [] s) }
+    ensures grammars { (l : Language S P T R V) → Ends l → (g : Grammar P T R) (s : S) → IsShallow l g → small l.ranks g ≡ true → vals l g s ≡ go l.run_step l.holds (vals l) g [] s }
     ensures repetitions { (l : Language S P T R V) → Ends l → (p : T) (g : Grammar P T R) (s : S) → small l.ranks (star p g) ≡ true →
         vals l (star p g) s ≡ (if l.holds p s then (eval l.run_step l.holds (vals l) g s & vals l (star p g)) else Some ([], s)) }
 {}
@@ -51,6 +52,16 @@ pub fn places<S, P, T, R, V>()
     ensures one { (l : Language S P T R V) (piece : Grammar P T R) (s : S) (left : S → ℕ) (whole p q : ℕ) → IsPlace (PieceAt l piece) s left whole p → IsPlace (PieceAt l piece) s left whole q → p ≡ q }
     ensures computed { (l : Language S P T R V) → Ends l → (piece : Grammar P T R) → IsPiece l piece → (s : S) (left : S → ℕ) (whole place : ℕ) →
         place + left (front l.size (vals l piece) s) ≡ whole → IsPlace (PieceAt l piece) s left whole place }
+{}
+
+/// A text that is all pieces is one list of them, and its place is its end.
+pub fn whole_texts<S, P, T, R, V>()
+    ensures one { (l : Language S P T R V) (piece : Grammar P T R) (left : S → ℕ) → EndsStuck (PieceAt l piece) left → (ts us : List (Tree R V)) (s : S) →
+        WholeAt (PieceAt l piece) left ts s → WholeAt (PieceAt l piece) left us s → ts ≡ us }
+    ensures place { (l : Language S P T R V) (piece : Grammar P T R) (left : S → ℕ) → EndsStuck (PieceAt l piece) left → (ts : List (Tree R V)) (s : S) (whole p : ℕ) →
+        WholeAt (PieceAt l piece) left ts s → IsPlace (PieceAt l piece) s left whole p → p ≡ whole }
+    ensures values { (l : Language S P T R V) (piece : Grammar P T R) (left : S → ℕ) → EndsStuck (SaysAt l piece) left → (ks js : List (List V)) (s : S) →
+        WholeAt (SaysAt l piece) left ks s → WholeAt (SaysAt l piece) left js s → ks ≡ js }
 {}
 
 /// `front` goes on behind each piece that reads, and ends where none does.
@@ -104,6 +115,16 @@ pub fn later_places<A, S, P, T, R, V>()
         IsPlace (PieceWith l found fresh piece) s left whole p → IsPlace (PieceWith l found fresh piece) s left whole q → p ≡ q }
     ensures computed { (l : A → Language S P T R V) (found : S → A) (none : A) → Later l none → (fresh : S → S) → ((s : S) → (l none).size (fresh s) ≤ (l none).size s) → (piece : Grammar P T R) → ((a : A) → IsPiece (l a) piece) →
         (s : S) (left : S → ℕ) (whole place : ℕ) → place + left (front (l none).size (next_with l found none fresh piece) s) ≡ whole → IsPlace (PieceWith l found fresh piece) s left whole place }
+{}
+
+/// Such a text that is all pieces is one list of them, and its place is its end.
+pub fn later_texts<A, S, P, T, R, V>()
+    ensures one { (l : A → Language S P T R V) (found : S → A) (none : A) → Later l none → (fresh : S → S) (piece : Grammar P T R) (left : S → ℕ) → EndsStuck (PieceWith l found fresh piece) left → (ts us : List (Tree R V)) (s : S) →
+        WholeAt (PieceWith l found fresh piece) left ts s → WholeAt (PieceWith l found fresh piece) left us s → ts ≡ us }
+    ensures place { (l : A → Language S P T R V) (found : S → A) (none : A) → Later l none → (fresh : S → S) (piece : Grammar P T R) (left : S → ℕ) → EndsStuck (PieceWith l found fresh piece) left → (ts : List (Tree R V)) (s : S) (whole p : ℕ) →
+        WholeAt (PieceWith l found fresh piece) left ts s → IsPlace (PieceWith l found fresh piece) s left whole p → p ≡ whole }
+    ensures values { (l : A → Language S P T R V) (found : S → A) (none : A) → Later l none → (fresh : S → S) (piece : Grammar P T R) (left : S → ℕ) → EndsStuck (SaysWith l found fresh piece) left → (ks js : List (List V)) (s : S) →
+        WholeAt (SaysWith l found fresh piece) left ks s → WholeAt (SaysWith l found fresh piece) left js s → ks ≡ js }
 {}
 
 /// The same two laws of such a text's front.
