@@ -38,6 +38,10 @@ abbrev pub behind : ℕ → Text → Option Text
 behind k [] = None
 behind k (b ∷ bs) = if b == k then Some bs else None
 
+-- where a word begins behind blanks; digits right before `<` or `>` belong to the operator
+abbrev pub word_place : Text → Option Text
+word_place bytes = if is_token Word bytes then Some (gap bytes) else None
+
 -- ---- here-documents
 
 abbrev pub nth : List Text → ℕ → Text
@@ -61,7 +65,7 @@ here_node k s false = expanded_parts k s.depth (nth k.bodies s.named) >>= λ ps.
 
 -- behind the operator
 abbrev pub here_after : Known → State → Bool → Text → Read
-here_after k s strips bytes = delimiter_at (gap bytes) >>= λ d. here_node k s d.0.1 >>= λ x.
+here_after k s strips bytes = word_place bytes >>= λ place. delimiter_at place >>= λ d. here_node k s d.0.1 >>= λ x.
     Some (said x, record s { bytes = d.1; owed = s.owed ++ record { delimiter = d.0.0; literal = d.0.1; strips = strips } ∷ []; named = suc s.named })
 
 abbrev pub here_read : Known → State → Op × Text → Read
@@ -86,8 +90,8 @@ copied_read s o [] = None
 copied_read s o (b ∷ bs) = if is_copied b && not (unit_starts in_word (clear bs)) then gives (aimed_node o (part (plain (b ∷ [])) no_part)) s bs else None
 
 abbrev pub copy_read : State → Op × Text → Read
-copy_read s (LessAnd, rest) = copied_read s copy_in (gap rest)
-copy_read s (Rattle.sh_grammar.specs.Tokens.GreatAnd, rest) = copied_read s copy_out (gap rest)
+copy_read s (LessAnd, rest) = word_place rest >>= λ place. copied_read s copy_in place
+copy_read s (Rattle.sh_grammar.specs.Tokens.GreatAnd, rest) = word_place rest >>= λ place. copied_read s copy_out place
 copy_read s t = None
 
 abbrev pub digit_read : State → Text → Read
@@ -148,7 +152,7 @@ run_step k descriptor s = digit_read s (gap s.bytes)
 run_step k file_op s = op_read s (token s.bytes)
 run_step k here s = here_read k s (token s.bytes)
 run_step k copy s = copy_read s (token s.bytes)
-run_step k to_word s = if unit_starts in_word (gap s.bytes) then silent s (gap s.bytes) else None
+run_step k to_word s = word_place s.bytes >>= λ place. silent s place
 run_step k tilde s = tilde_at (clear s.bytes) >>= λ rest. gives (part_node tilde_part) s rest
 run_step k (literal c) s = literal_read s (literal_run c (clear s.bytes))
 run_step k (escaped c) s = behind 92 (clear s.bytes) >>= λ rest. escaped_read c s rest
