@@ -7,7 +7,12 @@
 
 mod copies;
 mod description;
+mod lines;
+mod meter;
+mod names;
+mod opening;
 mod outside;
+mod paths;
 mod table;
 #[cfg(test)]
 mod tests;
@@ -16,6 +21,9 @@ mod world;
 
 pub use copies::copy_texts;
 pub use description::{Desc, Fds};
+pub use lines::Line;
+pub use meter::Meter;
+pub use opening::{Found, OpenFault};
 pub use outside::Outside;
 pub use text_map::TextMap;
 pub use world::{Answer, Bounds, Call, End, Latitude, Report, Row, RowInput, RowKey, World};
