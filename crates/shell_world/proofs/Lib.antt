@@ -1,6 +1,8 @@
 pub mod Between
+pub mod LineCuts
 pub mod Maps
 pub mod Monotone
+pub mod Parts
 pub mod Records
 pub mod Rows
 pub mod Simulate

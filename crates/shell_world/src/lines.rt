@@ -39,6 +39,7 @@ fn copy_without_nul(alloc: Global, bytes: &[u8]) -> Result<Text, Memory>
 }
 
 /// How many bytes are taken with the line that a text begins with.
+#[tactic(auto, using(crate::proofs::LineCuts::taken_with, crate::proofs::LineCuts::taken_without))]
 fn line_taken(text: &[u8]) -> usize
     ensures { result ≡ line_taken text.now }
 {
@@ -46,6 +47,7 @@ fn line_taken(text: &[u8]) -> usize
     if len < text.len() { len + 1 } else { len }
 }
 
+#[tactic(auto, using(crate::proofs::LineCuts::ended_is))]
 fn line_of(alloc: Global, text: &[u8]) -> Result<Line, Memory>
     ensures { IfOk result (λ line. line ≡ line_of text.now) }
 {
