@@ -7,11 +7,15 @@
 
 mod copies;
 mod description;
+#[cfg(test)]
+mod descriptor_tests;
 mod lines;
 mod meter;
 mod names;
 mod opening;
 mod outside;
+#[cfg(test)]
+mod path_tests;
 mod paths;
 mod table;
 #[cfg(test)]

@@ -7,7 +7,7 @@ use crate::world::Bounds;
 use std::marker::Model;
 
 /// The turns and the levels that are left of the bounds.
-#[derive(Debug)]
+#[derive(Debug, Drop)]
 pub struct Meter {
     turns: u32,
     levels: u32,
