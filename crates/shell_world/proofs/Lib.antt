@@ -1,8 +1,10 @@
+pub mod AlikeLaws
 pub mod Between
 pub mod LineCuts
 pub mod Maps
 pub mod Monotone
 pub mod Parts
+pub mod PathLaws
 pub mod Records
 pub mod Rows
 pub mod Simulate

@@ -1,5 +1,5 @@
 -- A line that `read` takes (POSIX XCU read; the Bash manual's `read`). NUL bytes are dropped.
-use Rattle.std.specs.Prelude.{ℕ, Bool, true, false, not, ◌+◌, ◌==◌, List, [], ◌∷◌, length, take, drop, filter, Option, Some, None}
+use Rattle.std.specs.Prelude.{ℕ, Bool, true, false, not, ◌+◌, ◌==◌, [], ◌∷◌, take, drop, filter, Option}
 use Rattle.std.specs.List.{prefix_len}
 use Rattle.shell_world.specs.declared.lines.Line.{Line}
 use Rattle.shell_world.specs.Texts.{Text}

@@ -1,12 +1,12 @@
 -- What is opened (POSIX XCU 2.7, XSH open), and what a command substitution takes (2.6.3).
-use Rattle.std.specs.Prelude.{◌≡◌, ℕ, Bool, true, false, if◌then◌else◌, List, [], ◌∷◌, ◌++◌, length, Option, Some, None, Result, Ok, Err}
+use Rattle.std.specs.Prelude.{◌≡◌, ℕ, Bool, true, false, if◌then◌else◌, [], ◌∷◌, ◌++◌, length, Option, Some, None, Result, Ok, Err}
 use Rattle.shell_world.specs.declared.description.Desc.{Desc as Number}
 use Rattle.shell_world.specs.declared.description.Description.TheVariants.{Reading, Writing, Appending, Given, Buffer, Output, Errors}
 use Rattle.shell_world.specs.declared.opening.OpenFault.{OpenFault}
 use Rattle.shell_world.specs.declared.opening.OpenFault.TheVariants as fault
 use Rattle.shell_world.specs.declared.opening.Found.{Found}
 use Rattle.shell_world.specs.declared.opening.Found.TheVariants as found
-use Rattle.shell_world.specs.Texts.{Text, Map, insert}
+use Rattle.shell_world.specs.Texts.{Text, insert}
 use Rattle.shell_world.specs.Outside.{Desc, Outside, file_bytes, change_desc, desc_at}
 use Rattle.shell_world.specs.Paths.{path_of, found_in, is_folder, is_under_file}
 use Rattle.shell_world.specs.Running.{Running}

@@ -9,7 +9,7 @@ use std::test::Fail;
 /// What a file holds at the end of a run.
 fn holds(outside: Outside<'_>, path: &[u8], want: &[u8]) -> bool {
     let report = outside.finish(End::Ended(0), 0);
-    match report.files {
+    match &report.files {
         None => false,
         Some(files) => files
             .as_slice()

@@ -1,4 +1,4 @@
-use Rattle.std.proofs.Common.{◌≡◌, ◌==◌, true, false, get_or, take_all, arith}
+use Rattle.std.proofs.Common.{◌≡◌, true, false, get_or, take_all, arith}
 use Rattle.std.proofs.lemmas.List.{take_rest}
 use Rattle.std.proofs.lemmas.List.Elements.{All-more}
 use Rattle.std.proofs.lemmas.Bool.Decides.{nat_tests}
