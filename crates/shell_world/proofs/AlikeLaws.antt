@@ -1,5 +1,5 @@
 -- What is done through matched descriptors keeps two outsides alike.
-use Rattle.std.proofs.Common.{◌≡◌, ◌⊎◌, inl, inr, ℕ, zero, suc, ◌+◌, ◌<◌, List, [], ◌∷◌, ◌++◌, length, drop, Option, Some, None, refl, sym, ap, ap₂, ◌∙◌, subst, arith, ◌↔◌}
+use Rattle.std.proofs.Common.{◌≡◌, ◌⊎◌, inl, inr, ℕ, zero, suc, ◌+◌, Bool, true, false, if◌then◌else◌, ◌<◌, List, [], ◌∷◌, ◌++◌, length, drop, Option, Some, None, refl, sym, ap, ap₂, ◌∙◌, subst, arith, ◌↔◌}
 use Rattle.std.proofs.lemmas.Bool.{cases_eq}
 use Rattle.shell_world.specs.declared.world.Row.{Row}
 use Rattle.shell_world.specs.declared.world.Answer.{Answer}
@@ -7,11 +7,17 @@ use Rattle.shell_world.specs.declared.world.RowInput.{RowInput}
 use Rattle.shell_world.specs.declared.world.RowInput.TheVariants.{Nothing, Any, Exactly}
 use Rattle.shell_world.specs.declared.description.Description.TheVariants.{Reading, Writing, Appending, Given, Buffer, Output, Errors}
 use Rattle.shell_world.specs.Texts.{Text, Map, nth, with_nth, insert, lookup, text_or_none}
-use Rattle.shell_world.specs.Outside.{Desc, Outside, Trace, Fds, desc_at, open_at, change_desc, unread, read_on, consumed_at, drained_at, overwritten, write_to, written_at}
+use Rattle.shell_world.specs.Outside.{Desc, Outside, Trace, Fds, index_at, desc_at, open_at, change_desc, unread, read_on, consumed_at, drained_at, overwritten, write_to, written_at}
 use Rattle.shell_world.specs.Calls.{Called, recorded, taken_by, input_after_at, input_after, times, answer_at, answered, row_called, answered_by, called_by, chosen_from}
 use Rattle.shell_world.specs.Lines.{line_taken, line_read_at}
-use Rattle.shell_world.specs.Opening.{with_desc, emptied, emptied_at, taken_at}
-use Rattle.shell_world.specs.Alike.{Matching, IsMatched, AreMatched, Alike, AlikeFds, Keeps}
+use Rattle.shell_world.specs.declared.world.World.{World}
+use Rattle.shell_world.specs.declared.opening.Found.{Found}
+use Rattle.shell_world.specs.declared.opening.Found.TheVariants as found
+use Rattle.shell_world.specs.declared.opening.OpenFault.TheVariants as fault
+use Rattle.shell_world.specs.Paths.{path_of, found_in, is_folder, is_under_file}
+use Rattle.shell_world.specs.World.{start_outside, start_fds, no_trace}
+use Rattle.shell_world.specs.Opening.{Opened, Refused, Opens, opens, read_found, read_named, read_opened, writer, kept, written_path, write_named, write_opened, text_opened, buffer_opened, with_desc, emptied, emptied_at, taken_at}
+use Rattle.shell_world.specs.Alike.{Matching, IsMatched, AreMatched, Alike, AlikeFds, Keeps, CalledAlike, OpenedAlike, start_matching}
 
 -- ---- lists
 
@@ -20,12 +26,12 @@ nth_below i d [] e = cc
 nth_below zero d (x ∷ ds) e = omega arith
 nth_below (suc i) d (x ∷ ds) e = let h : i < length ds = nth_below i d ds e in omega arith
 
-nth_set : (i : ℕ) (d e : Desc) (ds : List Desc) → nth i ds ≡ Some e → nth i (with_nth i d ds) ≡ Some d
+nth_set : {X : Type 0} (i : ℕ) (d e : X) (ds : List X) → nth i ds ≡ Some e → nth i (with_nth i d ds) ≡ Some d
 nth_set i d e [] h = cc
 nth_set zero d e (x ∷ ds) h = refl
 nth_set (suc i) d e (x ∷ ds) h = nth_set i d e ds h
 
-nth_kept : (i k : ℕ) (d : Desc) (ds : List Desc) → ¬ (i ≡ k) → nth k (with_nth i d ds) ≡ nth k ds
+nth_kept : {X : Type 0} (i k : ℕ) (d : X) (ds : List X) → ¬ (i ≡ k) → nth k (with_nth i d ds) ≡ nth k ds
 nth_kept i k d [] h = refl
 nth_kept zero zero d (x ∷ ds) h = absurd (h refl)
 nth_kept zero (suc k) d (x ∷ ds) h = refl
@@ -224,11 +230,6 @@ input_alike ms a b i j (Exactly text) h m = drained_alike ms a b i j h m
 pub retold : (ms : Matching) (a b : Trace × Outside) (t u : Trace) → t ≡ u → Alike ms a b → Alike ms (t, a.1) (u, b.1)
 retold ms a b t u e h = record { trace = e; files = h.files; one_to_one = h.one_to_one; equal = h.equal }
 
--- one status, and what is left is alike
-pub record CalledAlike (ms : Matching) (c d : Called) : Type 0 where
-  pub status : c.status ≡ d.status
-  pub after : Alike ms (c.trace, c.outside) (d.trace, d.outside)
-
 answered_alike : (ms : Matching) (a b : Trace × Outside) (fds gds : Fds) (answer : Answer) → Alike ms a b → AlikeFds ms fds gds → CalledAlike ms (answered answer fds a) (answered answer gds b)
 answered_alike ms a b fds gds answer h f = record {
   status = refl;
@@ -258,3 +259,99 @@ call_alike ms a b fds gds rows argv env h f =
     let e : input ≡ input' = unread_same ms a b _ _ h (f.at 0) in
     subst (λ i. CalledAlike ms (called_by rows argv env fds a.0 a.1) (answered_by (chosen_from 0 rows argv i) argv env gds input' b.0 b.1)) e
     (by_choice ms a b fds gds (chosen_from 0 rows argv input) argv env input input' e h f)
+
+-- ---- what is opened
+
+pub text_alike : (ms : Matching) (a b : Trace × Outside) (text : Text) → Alike ms a b → OpenedAlike ms a.0 b.0 (text_opened text a.1) (text_opened text b.1)
+text_alike ms a b text h = open_alike ms a b h (Given text 0) a.1.files b.1.files h.files
+
+pub buffer_alike : (ms : Matching) (a b : Trace × Outside) → Alike ms a b → OpenedAlike ms a.0 b.0 (buffer_opened a.1) (buffer_opened b.1)
+buffer_alike ms a b h = open_alike ms a b h (Buffer []) a.1.files b.1.files h.files
+
+found_alike : (ms : Matching) (a b : Trace × Outside) (f : Found) (path : Text) → Alike ms a b → OpenedAlike ms a.0 b.0 (read_found f path a.1) (read_found f path b.1)
+found_alike ms a b found.Nothing path h = refl
+found_alike ms a b found.Folder path h = refl
+found_alike ms a b (found.File size) path h = open_alike ms a b h (Reading path 0) a.1.files b.1.files h.files
+
+read_alike_at : (ms : Matching) (a b : Trace × Outside) (path : Option Text) → Alike ms a b → OpenedAlike ms a.0 b.0 (read_named path a.1) (read_named path b.1)
+read_alike_at ms a b None h = refl
+read_alike_at ms a b (Some path) h =
+    subst (λ fs. OpenedAlike ms a.0 b.0 (read_found (found_in path a.1.files) path a.1) (read_found (found_in path fs) path b.1)) h.files
+    (found_alike ms a b (found_in path a.1.files) path h)
+
+pub read_alike : (ms : Matching) (a b : Trace × Outside) (text : Text) → Alike ms a b → OpenedAlike ms a.0 b.0 (read_opened text a.1) (read_opened text b.1)
+read_alike ms a b text h = read_alike_at ms a b (path_of text) h
+
+path_alike : (ms : Matching) (a b : Trace × Outside) (append : Bool) (path : Text) → Alike ms a b → OpenedAlike ms a.0 b.0 (written_path append path a.1) (written_path append path b.1)
+path_alike ms a b append path h =
+    open_alike ms a b h (writer append path) _ _ (ap (λ fs. insert path (kept append (text_or_none (lookup path fs))) fs) h.files)
+
+tests_alike : (ms : Matching) (a b : Trace × Outside) (append : Bool) (path : Text) (x y : Bool) → Alike ms a b
+    → OpenedAlike ms a.0 b.0 (if x then Refused fault.IsFolder else (if y then Refused fault.UnderFile else written_path append path a.1)) (if x then Refused fault.IsFolder else (if y then Refused fault.UnderFile else written_path append path b.1))
+tests_alike ms a b append path true y h = refl
+tests_alike ms a b append path false true h = refl
+tests_alike ms a b append path false false h = path_alike ms a b append path h
+
+write_alike_at : (ms : Matching) (a b : Trace × Outside) (append : Bool) (path : Option Text) → Alike ms a b → OpenedAlike ms a.0 b.0 (write_named append path a.1) (write_named append path b.1)
+write_alike_at ms a b append None h = refl
+write_alike_at ms a b append (Some path) h =
+    subst (λ fs. OpenedAlike ms a.0 b.0 (write_named append (Some path) a.1) (if is_folder path fs then Refused fault.IsFolder else (if is_under_file path fs then Refused fault.UnderFile else written_path append path b.1))) h.files
+    (tests_alike ms a b append path (is_folder path a.1.files) (is_under_file path a.1.files) h)
+
+pub write_alike : (ms : Matching) (a b : Trace × Outside) (append : Bool) (text : Text) → Alike ms a b → OpenedAlike ms a.0 b.0 (write_opened append text a.1) (write_opened append text b.1)
+write_alike ms a b append text h = write_alike_at ms a b append (path_of text) h
+
+-- ---- descriptors
+
+pub fds_later : (ms ns : Matching) (fds gds : Fds) → Keeps ms ns → AlikeFds ms fds gds → AlikeFds ns fds gds
+fds_later ms ns fds gds g f = record { at = λ n. matched_later ms ns (index_at (nth n fds)) (index_at (nth n gds)) g (f.at n) }
+
+set_matched : (ms : Matching) (fds gds : Fds) (n k : ℕ) (i j e f : Option ℕ) → nth n fds ≡ Some e → nth n gds ≡ Some f → AreMatched ms i j → AreMatched ms (index_at (nth k fds)) (index_at (nth k gds)) → (n ≡ k) ⊎ (n ≡ k → ⊥)
+    → AreMatched ms (index_at (nth k (with_nth n i fds))) (index_at (nth k (with_nth n j gds)))
+set_matched ms fds gds n k i j e f is is' m old (inl same) =
+    subst (λ l. AreMatched ms (index_at (nth l (with_nth n i fds))) (index_at (nth l (with_nth n j gds)))) same
+    (subst (λ x. AreMatched ms (index_at x) (index_at (nth n (with_nth n j gds)))) (sym (nth_set n i e fds is)) (subst (λ y. AreMatched ms i (index_at y)) (sym (nth_set n j f gds is')) m))
+set_matched ms fds gds n k i j e f is is' m old (inr other) =
+    subst (λ x. AreMatched ms (index_at x) (index_at (nth k (with_nth n j gds)))) (sym (nth_kept n k i fds other))
+    (subst (λ y. AreMatched ms (index_at (nth k fds)) (index_at y)) (sym (nth_kept n k j gds other)) old)
+
+pub set_alike : (ms : Matching) (fds gds : Fds) (n : ℕ) (i j e f : Option ℕ) → nth n fds ≡ Some e → nth n gds ≡ Some f → AreMatched ms i j → AlikeFds ms fds gds → AlikeFds ms (with_nth n i fds) (with_nth n j gds)
+set_alike ms fds gds n i j e f is is' m h = record { at = λ k. set_matched ms fds gds n k i j e f is is' m (h.at k) (cases_eq n k) }
+
+-- ---- the start
+
+start_same : (i j : ℕ) → IsMatched start_matching i j → i ≡ j
+start_same i j (inl m) = sym m.0 ∙ m.1
+start_same i j (inr (inl m)) = sym m.0 ∙ m.1
+start_same i j (inr (inr (inl m))) = sym m.0 ∙ m.1
+start_same i j (inr (inr (inr m))) = absurd m
+
+start_equal : (w : World) (i j : ℕ) → IsMatched start_matching i j → (d : Desc) × (nth i (start_outside w).descs ≡ Some d) × (nth j (start_outside w).descs ≡ Some d)
+start_equal w i j (inl m) = (Given w.stdin 0, ap (λ k. nth k (start_outside w).descs) (sym m.0), ap (λ k. nth k (start_outside w).descs) (sym m.1))
+start_equal w i j (inr (inl m)) = (Output, ap (λ k. nth k (start_outside w).descs) (sym m.0), ap (λ k. nth k (start_outside w).descs) (sym m.1))
+start_equal w i j (inr (inr (inl m))) = (Errors, ap (λ k. nth k (start_outside w).descs) (sym m.0), ap (λ k. nth k (start_outside w).descs) (sym m.1))
+start_equal w i j (inr (inr (inr m))) = absurd m
+
+pub start_alike : (w : World) → Alike start_matching (no_trace, start_outside w) (no_trace, start_outside w)
+start_alike w = record {
+  trace = refl;
+  files = refl;
+  one_to_one = λ i j k l m n. let p = start_same i j m in let q = start_same k l n in ((λ e. sym p ∙ e ∙ q), (λ e. p ∙ e ∙ sym q));
+  equal = start_equal w;
+}
+
+start_open : (n : ℕ) → AreMatched start_matching (index_at (nth n start_fds)) (index_at (nth n start_fds))
+start_open zero = inl (refl, refl)
+start_open (suc zero) = inr (inl (refl, refl))
+start_open (suc (suc zero)) = inr (inr (inl (refl, refl)))
+start_open (suc (suc (suc zero))) = tt
+start_open (suc (suc (suc (suc zero)))) = tt
+start_open (suc (suc (suc (suc (suc zero))))) = tt
+start_open (suc (suc (suc (suc (suc (suc zero)))))) = tt
+start_open (suc (suc (suc (suc (suc (suc (suc zero))))))) = tt
+start_open (suc (suc (suc (suc (suc (suc (suc (suc zero)))))))) = tt
+start_open (suc (suc (suc (suc (suc (suc (suc (suc (suc zero))))))))) = tt
+start_open (suc (suc (suc (suc (suc (suc (suc (suc (suc (suc n)))))))))) = tt
+
+pub start_fds_alike : AlikeFds start_matching start_fds start_fds
+start_fds_alike = record { at = start_open }

@@ -1,5 +1,6 @@
 pub mod AlikeLaws
 pub mod Between
+pub mod FileLaws
 pub mod LineCuts
 pub mod Maps
 pub mod Monotone
@@ -8,4 +9,5 @@ pub mod PathLaws
 pub mod Records
 pub mod Rows
 pub mod Simulate
+pub mod SoundRuns
 pub mod Writes

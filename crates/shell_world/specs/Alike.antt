@@ -3,6 +3,8 @@
 use Rattle.std.specs.Prelude.{◌≡◌, ◌↔◌, ◌⊎◌, ℕ, List, [], ◌∷◌, Option, Some, None}
 use Rattle.shell_world.specs.Texts.{nth}
 use Rattle.shell_world.specs.Outside.{Desc, Outside, Trace, Fds, index_at}
+use Rattle.shell_world.specs.Calls.{Called}
+use Rattle.shell_world.specs.Opening.{Opened, Refused, Opens}
 
 -- pairs of numbers: of a description of the one state, and of one of the other
 abbrev pub Matching : Type 0
@@ -33,3 +35,19 @@ pub record AlikeFds (ms : Matching) (fds gds : Fds) : Type 0 where
 -- what was matched stays so
 pub record Keeps (ms ns : Matching) : Type 0 where
   pub by : (i j : ℕ) → IsMatched ms i j → IsMatched ns i j
+
+-- two calls with one status, that leave what is alike
+pub record CalledAlike (ms : Matching) (c d : Called) : Type 0 where
+  pub status : c.status ≡ d.status
+  pub after : Alike ms (c.trace, c.outside) (d.trace, d.outside)
+
+-- both refused for one reason, or both opened, and then what was opened is matched
+abbrev pub OpenedAlike : Matching → Trace → Trace → Opened → Opened → Type 0
+OpenedAlike ms t u (Refused f) (Refused g) = f ≡ g
+OpenedAlike ms t u (Refused f) (Opens j p) = ⊥
+OpenedAlike ms t u (Opens i o) (Refused g) = ⊥
+OpenedAlike ms t u (Opens i o) (Opens j p) = Alike ((i, j) ∷ ms) (t, o) (u, p)
+
+-- what is matched at the start of a run
+abbrev pub start_matching : Matching
+start_matching = (0, 0) ∷ (1, 1) ∷ (2, 2) ∷ []

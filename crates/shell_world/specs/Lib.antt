@@ -1,6 +1,7 @@
 pub mod Alike
 pub mod Calls
 pub mod Ends
+pub mod Files
 pub mod Lines
 pub mod Meters
 pub mod Opening

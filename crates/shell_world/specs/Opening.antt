@@ -124,3 +124,8 @@ emptied_at i (Some d) o = change_desc i (emptied d) o
 -- the text of a buffer was taken, which is empty then
 abbrev pub taken_at : Option ℕ → Outside → Outside
 taken_at i o = emptied_at i (desc_at i o.descs) o
+
+-- P of the outside, where something was opened
+abbrev pub IfOpens : (Outside → Type 0) → Opened → Type 0
+IfOpens P (Refused fault) = Unit {0}
+IfOpens P (Opens number o) = P o

@@ -9,6 +9,7 @@ mod copies;
 mod description;
 #[cfg(test)]
 mod descriptor_tests;
+mod laws;
 mod lines;
 mod meter;
 mod names;
@@ -25,6 +26,7 @@ mod world;
 
 pub use copies::copy_texts;
 pub use description::{Desc, Fds};
+pub use laws::{files_stay_apart, outsides_stay_alike, texts_name_paths};
 pub use lines::Line;
 pub use meter::Meter;
 pub use opening::{Found, OpenFault};
