@@ -88,16 +88,6 @@ text_opened text o = opens (Given text 0) o
 abbrev pub buffer_opened : Outside → Opened
 buffer_opened o = opens (Buffer []) o
 
-abbrev pub is_buffer : Option Desc → Bool
-is_buffer None = false
-is_buffer (Some (Buffer text)) = true
-is_buffer (Some (Reading path offset)) = false
-is_buffer (Some (Given text offset)) = false
-is_buffer (Some (Writing path offset)) = false
-is_buffer (Some (Appending path)) = false
-is_buffer (Some Output) = false
-is_buffer (Some Errors) = false
-
 abbrev pub buffer_text : Option Desc → Text
 buffer_text None = []
 buffer_text (Some (Buffer text)) = text

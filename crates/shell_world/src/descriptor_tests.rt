@@ -1,200 +1,207 @@
-//! What passes through descriptors and descriptions.
+//! Tables of what passes through descriptors and descriptions: steps, and what they show with the file `a` at the end.
 
-use crate::tests::{text, texts, world_of};
-use crate::{Bounds, Desc, End, Fds, Line, Meter, Outside};
-use span_text::{List, Memory, Text};
-use std::alloc::Global;
+use crate::steps::{Step, shown_of};
+use crate::{Bounds, Meter};
 use std::test::Fail;
-
-/// What a file holds at the end of a run.
-fn holds(outside: Outside<'_>, path: &[u8], want: &[u8]) -> bool {
-    let report = outside.finish(End::Ended(0), 0);
-    match &report.files {
-        None => false,
-        Some(files) => files
-            .as_slice()
-            .iter()
-            .any(|file| file.0.bytes() == path && file.1.bytes() == want),
-    }
-}
 
 #[test]
 fn duplicates_share_an_offset(rt: HostRuntime) -> Result<(), Fail> {
-    let world = world_of(rt.alloc(), &[("a", "old")], "")?;
-    let (mut outside, mut fds) = Outside::start(rt.alloc(), &world)?;
-    let desc = outside.open_write(b"a", false)?;
-    fds.set(3, Some(desc));
-    fds.set(4, fds.get(3));
-    outside.write(fds.get(3), b"ab")?;
-    outside.write(fds.get(4), b"cd")?;
-    fds.set(3, None);
-    assert_eq!(rt; outside.write(fds.get(3), b"x")?, false);
-    outside.write(fds.get(4), b"e")?;
-    assert!(rt; holds(outside, b"a", b"abcde"));
+    let steps = [
+        Step::Write(3, "a"),
+        Step::Duplicate(4, 3),
+        Step::Put(3, "ab"),
+        Step::Put(4, "cd"),
+        Step::Close(3),
+        Step::Put(3, "x"),
+        Step::Put(4, "e"),
+    ];
+    let shown = shown_of(rt.alloc(), "old", "", &steps)?;
+    assert_eq!(rt; shown.bytes(), b"closed (abcde)".as_slice());
     Ok(())
 }
 
 #[test]
 fn two_descriptions_have_two_offsets(rt: HostRuntime) -> Result<(), Fail> {
-    let world = world_of(rt.alloc(), &[], "")?;
-    let (mut outside, _) = Outside::start(rt.alloc(), &world)?;
-    let one = outside.open_write(b"a", false)?;
-    let two = outside.open_write(b"a", false)?;
-    outside.write(Some(one), b"abcd")?;
-    outside.write(Some(two), b"X")?;
-    outside.write(Some(one), b"e")?;
-    assert!(rt; holds(outside, b"a", b"Xbcde"));
+    let steps = [
+        Step::Write(3, "a"),
+        Step::Write(4, "./a"),
+        Step::Put(3, "abcd"),
+        Step::Put(4, "X"),
+        Step::Put(3, "e"),
+    ];
+    let shown = shown_of(rt.alloc(), "old", "", &steps)?;
+    assert_eq!(rt; shown.bytes(), b"(Xbcde)".as_slice());
     Ok(())
 }
 
 #[test]
 fn a_gap_holds_nul_bytes(rt: HostRuntime) -> Result<(), Fail> {
-    let world = world_of(rt.alloc(), &[], "")?;
-    let (mut outside, _) = Outside::start(rt.alloc(), &world)?;
-    let one = outside.open_write(b"a", false)?;
-    outside.write(Some(one), b"abc")?;
-    outside.open_write(b"a", false)?;
-    outside.write(Some(one), b"d")?;
-    assert!(rt; holds(outside, b"a", b"\0\0\0d"));
+    let steps = [
+        Step::Write(3, "a"),
+        Step::Put(3, "abc"),
+        Step::Write(4, "a"),
+        Step::Put(3, "d"),
+    ];
+    let shown = shown_of(rt.alloc(), "", "", &steps)?;
+    assert_eq!(rt; shown.bytes(), b"(\0\0\0d)".as_slice());
     Ok(())
 }
 
 #[test]
 fn appending_is_at_the_end_as_it_is_now(rt: HostRuntime) -> Result<(), Fail> {
-    let world = world_of(rt.alloc(), &[("a", "0")], "")?;
-    let (mut outside, _) = Outside::start(rt.alloc(), &world)?;
-    let one = outside.open_write(b"a", true)?;
-    let two = outside.open_write(b"a", true)?;
-    outside.write(Some(one), b"1")?;
-    outside.write(Some(two), b"22")?;
-    outside.write(Some(one), b"3")?;
-    assert!(rt; holds(outside, b"a", b"01223"));
+    let steps = [
+        Step::Append(3, "a"),
+        Step::Append(4, "a"),
+        Step::Put(3, "1"),
+        Step::Put(4, "22"),
+        Step::Put(3, "3"),
+    ];
+    let shown = shown_of(rt.alloc(), "0", "", &steps)?;
+    assert_eq!(rt; shown.bytes(), b"(01223)".as_slice());
     Ok(())
 }
 
 #[test]
 fn a_reader_sees_what_is_written_later(rt: HostRuntime) -> Result<(), Fail> {
-    let world = world_of(rt.alloc(), &[("a", "one\n")], "")?;
-    let (mut outside, _) = Outside::start(rt.alloc(), &world)?;
-    let reader = Some(outside.open_read(b"a")?);
-    let writer = Some(outside.open_write(b"a", true)?);
-    assert!(rt; is_line(&outside.read_line(reader)?, b"one", true));
-    assert!(rt; is_line(&outside.read_line(reader)?, b"", false));
-    outside.write(writer, b"two\nthree")?;
-    assert!(rt; is_line(&outside.read_line(reader)?, b"two", true));
-    assert!(rt; is_line(&outside.read_line(reader)?, b"three", false));
-    outside.open_write(b"a", false)?;
-    outside.write(writer, b"x\n")?;
-    assert!(rt; is_line(&outside.read_line(reader)?, b"", false));
+    let steps = [
+        Step::Read(3, "a"),
+        Step::Append(4, "a"),
+        Step::Line(3),
+        Step::Line(3),
+        Step::Put(4, "two\nthree"),
+        Step::Line(3),
+        Step::Line(3),
+        Step::Write(5, "a"),
+        Step::Put(4, "x\n"),
+        Step::Line(3),
+    ];
+    let shown = shown_of(rt.alloc(), "one\n", "", &steps)?;
+    assert_eq!(rt; shown.bytes(), b"one+ - two+ three- - (x\n)".as_slice());
     Ok(())
-}
-
-fn is_line(line: &Line, text: &[u8], ended: bool) -> bool {
-    line.text.bytes() == text && line.ended == ended
 }
 
 #[test]
 fn lines_are_taken_one_by_one(rt: HostRuntime) -> Result<(), Fail> {
-    for (bytes, first, first_ended, second, second_ended) in [
-        ("", "", false, "", false),
-        ("ab", "ab", false, "", false),
-        ("ab\n", "ab", true, "", false),
-        ("ab\ncd", "ab", true, "cd", false),
-        ("\n\n", "", true, "", true),
-        ("a\0b\n\0\nc", "ab", true, "", true),
-        ("\0", "", false, "", false),
-        (" a \\\nb\n", " a \\", true, "b", true),
+    for (bytes, want) in [
+        ("", "- - ()"),
+        ("ab", "ab- - ()"),
+        ("ab\n", "ab+ - ()"),
+        ("ab\ncd", "ab+ cd- ()"),
+        ("\n\n", "+ + ()"),
+        ("a\0b\n\0\nc", "ab+ + ()"),
+        ("\0", "- - ()"),
+        (" a \\\nb\n", " a \\+ b+ ()"),
     ] {
-        let world = world_of(rt.alloc(), &[], "")?;
-        let (mut outside, _) = Outside::start(rt.alloc(), &world)?;
-        let from = Some(outside.open_text(text(rt.alloc(), bytes)?)?);
-        assert!(rt; is_line(&outside.read_line(from)?, first.as_bytes(), first_ended));
-        assert!(rt; is_line(&outside.read_line(from)?, second.as_bytes(), second_ended));
+        let steps = [Step::Given(3, bytes), Step::Line(3), Step::Line(3)];
+        let shown = shown_of(rt.alloc(), "", "", &steps)?;
+        assert_eq!(rt; shown.bytes(), want.as_bytes());
     }
     Ok(())
 }
 
 #[test]
 fn nothing_is_read_where_nothing_is_open_for_reading(rt: HostRuntime) -> Result<(), Fail> {
-    let world = world_of(rt.alloc(), &[("a", "x\n")], "in\n")?;
-    let (mut outside, fds) = Outside::start(rt.alloc(), &world)?;
-    let writer = outside.open_write(b"a", true)?;
-    let buffer = outside.open_buffer()?;
-    outside.write(Some(buffer), b"y\n")?;
-    for from in [None, fds.get(1), fds.get(2), Some(writer), Some(buffer)] {
-        assert!(rt; is_line(&outside.read_line(from)?, b"", false));
-    }
-    assert!(rt; is_line(&outside.read_line(fds.get(0))?, b"in", true));
+    let steps = [
+        Step::Line(1),
+        Step::Line(2),
+        Step::Append(3, "a"),
+        Step::Line(3),
+        Step::Buffer(4),
+        Step::Put(4, "y\n"),
+        Step::Line(4),
+        Step::Line(5),
+        Step::Line(0),
+    ];
+    let shown = shown_of(rt.alloc(), "x\n", "in\n", &steps)?;
+    assert_eq!(rt; shown.bytes(), b"- - - - - in+ (x\n)".as_slice());
+    Ok(())
+}
+
+#[test]
+fn nothing_is_written_where_nothing_is_open_for_writing(rt: HostRuntime) -> Result<(), Fail> {
+    let steps = [
+        Step::Put(0, "x"),
+        Step::Read(3, "a"),
+        Step::Put(3, "x"),
+        Step::Put(3, ""),
+        Step::Put(5, ""),
+        Step::Given(4, "y"),
+        Step::Put(4, "x"),
+    ];
+    let shown = shown_of(rt.alloc(), "old", "in", &steps)?;
+    assert_eq!(rt; shown.bytes(), b"closed closed closed (old)".as_slice());
     Ok(())
 }
 
 #[test]
 fn a_buffer_is_taken_once(rt: HostRuntime) -> Result<(), Fail> {
-    let world = world_of(rt.alloc(), &[], "")?;
-    let (mut outside, _) = Outside::start(rt.alloc(), &world)?;
-    let buffer = outside.open_buffer()?;
-    outside.write(Some(buffer), b"ab")?;
-    outside.write(Some(buffer), b"c")?;
-    assert_eq!(rt; outside.take_buffer(buffer).bytes(), b"abc".as_slice());
-    assert_eq!(rt; outside.take_buffer(buffer).bytes(), b"".as_slice());
-    outside.write(Some(buffer), b"d")?;
-    assert_eq!(rt; outside.take_buffer(buffer).bytes(), b"d".as_slice());
+    let steps = [
+        Step::Buffer(3),
+        Step::Put(3, "ab"),
+        Step::Put(3, "c"),
+        Step::Take(3),
+        Step::Take(3),
+        Step::Put(3, "d"),
+        Step::Take(3),
+        Step::Take(0),
+    ];
+    let shown = shown_of(rt.alloc(), "", "in", &steps)?;
+    assert_eq!(rt; shown.bytes(), b"abc= = d= = ()".as_slice());
     Ok(())
-}
-
-/// The inputs of the calls that were made, each with a bar behind it.
-fn inputs(alloc: Global, outside: Outside<'_>) -> Result<Text, Memory> {
-    let report = outside.finish(End::Ended(0), 0);
-    let mut shown = Text::new(alloc);
-    for call in report.calls.as_slice() {
-        match &call.input {
-            None => shown.append(b"-|")?,
-            Some(input) => {
-                shown.append(input.bytes())?;
-                shown.append(b"|")?;
-            }
-        }
-    }
-    Ok(shown)
 }
 
 #[test]
 fn a_call_takes_what_is_left(rt: HostRuntime) -> Result<(), Fail> {
-    let world = world_of(rt.alloc(), &[("a", "one\ntwo\n")], "first\nsecond")?;
-    let (mut outside, mut fds) = Outside::start(rt.alloc(), &world)?;
-    let argv = texts(rt.alloc(), &["cat"])?;
-    let env = List::new(rt.alloc());
-    outside.read_line(fds.get(0))?;
-    outside.call(&argv, &env, &fds)?;
-    outside.call(&argv, &env, &fds)?;
-    let file = outside.open_read(b"a")?;
-    fds.set(0, Some(file));
-    outside.read_line(fds.get(0))?;
-    outside.call(&argv, &env, &fds)?;
-    fds.set(0, None);
-    outside.call(&argv, &env, &fds)?;
-    fds.set(0, fds.get(1));
-    outside.call(&argv, &env, &fds)?;
-    let shown = inputs(rt.alloc(), outside)?;
-    assert_eq!(rt; shown.bytes(), b"second||two\n|||".as_slice());
+    let steps = [
+        Step::Line(0),
+        Step::Call("cat"),
+        Step::Call("cat"),
+        Step::Read(0, "a"),
+        Step::Line(0),
+        Step::Call("cat"),
+        Step::Close(0),
+        Step::Call("cat"),
+        Step::Duplicate(0, 1),
+        Step::Call("cat"),
+    ];
+    let shown = shown_of(rt.alloc(), "one\ntwo\n", "first\nsecond", &steps)?;
+    assert_eq!(rt;
+        shown.bytes(),
+        b"first+ 0 3 one+ 3 3 3 (second)()(two\n)()()(one\ntwo\n)".as_slice()
+    );
     Ok(())
 }
 
 #[test]
 fn an_exact_row_fits_the_rest(rt: HostRuntime) -> Result<(), Fail> {
-    let world = world_of(rt.alloc(), &[], "x\nin")?;
-    let (mut outside, mut fds) = Outside::start(rt.alloc(), &world)?;
-    let argv = texts(rt.alloc(), &["sum"])?;
-    let env = List::new(rt.alloc());
-    assert_eq!(rt; outside.call(&argv, &env, &fds)?, 127);
-    outside.read_line(fds.get(0))?;
-    assert_eq!(rt; outside.call(&argv, &env, &fds)?, 0);
-    assert_eq!(rt; outside.call(&argv, &env, &fds)?, 127);
-    let given = outside.open_text(text(rt.alloc(), "in")?)?;
-    fds.set(0, Some(given));
-    assert_eq!(rt; outside.call(&argv, &env, &fds)?, 0);
-    let shown = inputs(rt.alloc(), outside)?;
-    assert_eq!(rt; shown.bytes(), b"-|in|-|in|".as_slice());
+    let steps = [
+        Step::Call("sum"),
+        Step::Line(0),
+        Step::Call("sum"),
+        Step::Call("sum"),
+        Step::Given(0, "in"),
+        Step::Call("sum"),
+    ];
+    let shown = shown_of(rt.alloc(), "", "x\nin", &steps)?;
+    assert_eq!(rt;
+        shown.bytes(),
+        b"7 x+ 0 7 0 (none)(in)(none)(in)()".as_slice()
+    );
+    Ok(())
+}
+
+#[test]
+fn what_a_call_writes_goes_where_its_descriptors_lead(rt: HostRuntime) -> Result<(), Fail> {
+    let steps = [
+        Step::Append(1, "a"),
+        Step::Duplicate(2, 1),
+        Step::Call("cat"),
+        Step::Call("cat"),
+        Step::Close(1),
+        Step::Call("cat"),
+    ];
+    let shown = shown_of(rt.alloc(), "", "", &steps)?;
+    assert_eq!(rt; shown.bytes(), b"0 3 3 ()()()(ABee)".as_slice());
     Ok(())
 }
 

@@ -18,6 +18,8 @@ mod outside;
 #[cfg(test)]
 mod path_tests;
 mod paths;
+#[cfg(test)]
+mod steps;
 mod table;
 #[cfg(test)]
 mod tests;

@@ -1,9 +1,9 @@
 //! Files, texts and buffers are opened, and looked at.
 
-ghost use Rattle.std.specs.Prelude.{◌≡◌, true, length, Some, IfOk, OnOk, OnErr};
+ghost use Rattle.std.specs.Prelude.{◌≡◌, length, Some, IfOk, OnOk, OnErr};
 ghost use Rattle.shell_world.specs.Outside.{desc_at, file_bytes};
 ghost use Rattle.shell_world.specs.Paths.{path_of, found_at, names_of};
-ghost use Rattle.shell_world.specs.Opening.{IsOpened, IsOpenedAs, with_desc, read_opened, write_opened, written_path, text_opened, buffer_opened, kept, writer, is_buffer, buffer_text, taken_at};
+ghost use Rattle.shell_world.specs.Opening.{IsOpened, IsOpenedAs, with_desc, read_opened, write_opened, written_path, text_opened, buffer_opened, kept, writer, buffer_text, taken_at};
 ghost use Rattle.shell_world.specs.Running.{index_of, with_file};
 ghost use Rattle.shell_world.specs.declared.opening.OpenFault.TheVariants as fault;
 
@@ -168,9 +168,9 @@ impl<'w> Outside<'w> {
         })
     }
 
-    /// Takes the text of a buffer, which is empty then. It takes no memory.
+    /// Takes the text of a buffer, which is empty then. Of another description it gives the empty text, and changes
+    /// nothing. It takes no memory.
     pub fn take_buffer(&mut self, buffer: Desc) -> Text
-        requires buffer { is_buffer (desc_at (index_of (Some buffer)) self.old.outside.descs) ≡ true }
         ensures text { result ≡ buffer_text (desc_at (index_of (Some buffer)) self.old.outside.descs) }
         ensures new { self.new ≡ record self.old { outside = taken_at (index_of (Some buffer)) self.old.outside } }
     {
