@@ -84,7 +84,7 @@ module _ {X : Type 0} where
   pub now_there : (k : Text) (v : X) (m : Map X) → is_some (lookup k (insert k v m)) ≡ true
   now_there k v m = ap is_some (find-put text_cmp nat_list_cmp_total k k v m) ∙ ap (λ r. is_some (cond (is_eq r) (Some v) (lookup k m))) (tied_itself nat_list_cmp_total k)
 
-  put_ordered : (k : Text) (v : X) (m : Map X) → is_sorted text_cmp m ≡ true → is_sorted text_cmp (insert k v m) ≡ true
+  pub put_ordered : (k : Text) (v : X) (m : Map X) → is_sorted text_cmp m ≡ true → is_sorted text_cmp (insert k v m) ≡ true
   put_ordered k v m h = from_T _ (is_sorted-put text_cmp nat_list_cmp_total k v m (as_T _ h))
 
   below_apart : (x : Text) (es : Map X) → below_all text_cmp x es ≡ true → AllByRecursion (λ u. u ≢ x) (map (λ e. e.0) es)
@@ -152,7 +152,7 @@ folder_listed P front (b ∷ mid) more e some =
     let Q : Text → Type 0 = λ t. 0 < length t in
     any_if P (b == 47 && nat_lt 0 (length front)) front (folders_from (front ++ b ∷ []) (mid ++ 47 ∷ more)) (folder_listed P (front ++ b ∷ []) mid more (ap P moved ∙ e) (subst Q (sym moved) some))
 
-nonempty : (t : Text) → t ≢ [] → 0 < length t
+pub nonempty : (t : Text) → t ≢ [] → 0 < length t
 nonempty [] h = absurd (h refl)
 nonempty (b ∷ t) h = omega arith
 

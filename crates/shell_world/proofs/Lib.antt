@@ -4,6 +4,7 @@ pub mod FileLaws
 pub mod LineCuts
 pub mod Maps
 pub mod Monotone
+pub mod NameLaws
 pub mod Parts
 pub mod PathLaws
 pub mod Records

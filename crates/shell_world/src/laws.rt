@@ -1,13 +1,16 @@
 //! What holds of all runs.
 
 ghost use Rattle.std.specs.Prelude.{◌≡◌, ◌≢◌, ◌↔◌, ◌∷◌, [], ℕ, Bool, true, List, Option, Some};
+ghost use Rattle.std.specs.List.{list_any};
+ghost use Rattle.std.specs.FinMap.{is_sorted};
+ghost use Rattle.span_text.specs.KnownNames.{is_among};
 ghost use Rattle.shell_world.specs.declared.world.World.{World};
 ghost use Rattle.shell_world.specs.declared.world.Row.{Row};
-ghost use Rattle.shell_world.specs.Texts.{Text, nth, with_nth};
+ghost use Rattle.shell_world.specs.Texts.{Text, Map, text_cmp, nth, with_nth};
 ghost use Rattle.shell_world.specs.Outside.{Desc, Outside, Trace, Fds, desc_at, unread, written_at, drained_at};
 ghost use Rattle.shell_world.specs.Calls.{called_by};
 ghost use Rattle.shell_world.specs.World.{IsGood, IsPath, IsFolderOf, start_outside, start_fds, no_trace};
-ghost use Rattle.shell_world.specs.Paths.{names_path, path_text, is_folder_of};
+ghost use Rattle.shell_world.specs.Paths.{names_path, path_text, is_folder_of, folders_of, names_from, names_of};
 ghost use Rattle.shell_world.specs.Lines.{line_read_at};
 ghost use Rattle.shell_world.specs.Opening.{IfOpens, with_desc, read_opened, write_opened, text_opened, buffer_opened, taken_at};
 ghost use Rattle.shell_world.specs.Files.{IsSound};
@@ -17,6 +20,14 @@ ghost use Rattle.shell_world.specs.Alike.{Matching, AreMatched, Alike, AlikeFds,
 pub fn texts_name_paths()
     ensures path { (text : Text) → names_path text ≡ true → IsPath (path_text text) }
     ensures folder { (folder path : Text) → folder ≢ [] → (is_folder_of folder path ≡ true) ↔ IsFolderOf folder path }
+{}
+
+/// The folders that are listed are those of the path. The names are the paths and their folders, and nothing else, and
+/// they rise strictly by their bytes, so that each stands once.
+pub fn names_are_told()
+    ensures folders { (path text : Text) → (is_among (folders_of path) text ≡ true) ↔ IsFolderOf text path }
+    ensures names { (files : Map Text) (text : Text) → is_among (names_of files) text ≡ list_any (λ f. is_among (f.0 ∷ folders_of f.0) text) files }
+    ensures order { (files : Map Text) → is_sorted text_cmp (names_from files []) ≡ true }
 {}
 
 /// The files of a run in a good world are a map of files throughout: each key is a path, none stands twice, and none

@@ -28,7 +28,7 @@ mod world;
 
 pub use copies::copy_texts;
 pub use description::{Desc, Fds};
-pub use laws::{files_stay_apart, outsides_stay_alike, texts_name_paths};
+pub use laws::{files_stay_apart, names_are_told, outsides_stay_alike, texts_name_paths};
 pub use lines::Line;
 pub use meter::Meter;
 pub use opening::{Found, OpenFault};
