@@ -1,7 +1,14 @@
+pub mod AlikeLaws
 pub mod Between
+pub mod FileLaws
+pub mod LineCuts
 pub mod Maps
 pub mod Monotone
+pub mod NameLaws
+pub mod Parts
+pub mod PathLaws
 pub mod Records
 pub mod Rows
 pub mod Simulate
+pub mod SoundRuns
 pub mod Writes

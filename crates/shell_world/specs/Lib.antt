@@ -1,6 +1,12 @@
+pub mod Alike
 pub mod Calls
 pub mod Ends
+pub mod Files
+pub mod Lines
+pub mod Meters
+pub mod Opening
 pub mod Outside
+pub mod Paths
 pub mod Reports
 pub mod Running
 pub mod Runs

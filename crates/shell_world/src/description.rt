@@ -1,13 +1,16 @@
 //! Open descriptions (POSIX XBD 3.258), and the descriptors that stand for them (2.7).
 
-ghost use Rattle.std.specs.Prelude.{◌≡◌, ◌+◌, ◌<◌, IfOk, OnOk};
-ghost use Rattle.shell_world.specs.Texts.{nth};
+ghost use Rattle.std.specs.Prelude.{◌≡◌, ◌+◌, ◌<◌, Some, IfOk, OnOk};
+ghost use Rattle.shell_world.specs.Texts.{nth, with_nth};
+ghost use Rattle.shell_world.specs.Opening.{buffer_text, emptied};
 ghost use Rattle.shell_world.specs.Outside.{index_at, read_on, written_on};
 ghost use Rattle.shell_world.specs.Running.{index_of};
 ghost use Rattle.shell_world.specs.World.{start_fds};
 
 use span_text::{Memory, Text};
+use std::alloc::Global;
 use std::marker::Model;
+use std::mem;
 
 /// What is read or written through a descriptor. Two descriptors may share one, and then its offset too.
 #[derive(Debug, Drop)]
@@ -71,11 +74,30 @@ impl Description {
     }
 }
 
+impl Description {
+    /// The text of a buffer, which is empty then.
+    pub fn take_text(&mut self, alloc: Global) -> Text
+        ensures text { result ≡ buffer_text (Some self.old) }
+        ensures new { self.new ≡ emptied self.old }
+    {
+        match self {
+            Description::Buffer { text } => mem::replace(text, Text::new(alloc)),
+            _ => Text::new(alloc),
+        }
+    }
+}
+
 /// An open description of a run, by its number.
 #[derive(Clone, Copy, Debug, PartialEq, Eq)]
 pub struct Desc(u64);
 
 impl Desc {
+    pub(crate) fn of_index(index: usize) -> Desc
+        ensures { result.0 ≡ index }
+    {
+        Desc(index as u64)
+    }
+
     pub(crate) fn index(self) -> usize
         ensures { result ≡ self.0 }
     {
@@ -125,5 +147,13 @@ impl Fds {
         ensures { index_of result ≡ index_at (nth n self.now) }
     {
         self.slots[n as usize]
+    }
+
+    /// Opens a descriptor below 10 for a description, or closes it.
+    pub fn set(&mut self, n: u8, to: Option<Desc>)
+        requires { n < 10 }
+        ensures { self.new ≡ with_nth n (index_of to) self.old }
+    {
+        self.slots[n as usize] = to;
     }
 }

@@ -7,7 +7,19 @@
 
 mod copies;
 mod description;
+#[cfg(test)]
+mod descriptor_tests;
+mod laws;
+mod lines;
+mod meter;
+mod names;
+mod opening;
 mod outside;
+#[cfg(test)]
+mod path_tests;
+mod paths;
+#[cfg(test)]
+mod steps;
 mod table;
 #[cfg(test)]
 mod tests;
@@ -16,6 +28,10 @@ mod world;
 
 pub use copies::copy_texts;
 pub use description::{Desc, Fds};
+pub use laws::{files_stay_apart, names_are_told, outsides_stay_alike, texts_name_paths};
+pub use lines::Line;
+pub use meter::Meter;
+pub use opening::{Found, OpenFault};
 pub use outside::Outside;
 pub use text_map::TextMap;
 pub use world::{Answer, Bounds, Call, End, Latitude, Report, Row, RowInput, RowKey, World};

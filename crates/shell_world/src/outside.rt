@@ -2,7 +2,7 @@
 
 ghost use Rattle.std.specs.Prelude.{◌≡◌, ◌++◌, length, drop, Some, IfOk, OnOk};
 ghost use Rattle.std.specs.Option.{option_copied};
-ghost use Rattle.shell_world.specs.Outside.{desc_at, unread, drained_at, file_bytes, padded, overwritten, is_written, write_to, written_on_at, takes_piece, written_at};
+ghost use Rattle.shell_world.specs.Outside.{desc_at, unread, consumed_at, drained_at, file_bytes, padded, overwritten, is_written, write_to, written_on_at, takes_piece, written_at};
 ghost use Rattle.shell_world.specs.Calls.{recorded, taken_by, input_after_at, answered};
 ghost use Rattle.shell_world.specs.Texts.{map_of};
 ghost use Rattle.shell_world.specs.World.{start_fds};
@@ -24,9 +24,9 @@ pub struct Outside<'w> {
     calls: List<Call>,
     out: Text,
     err: Text,
-    files: TextMap<Text>,
-    descs: Vec<Description>,
-    alloc: Global,
+    pub(crate) files: TextMap<Text>,
+    pub(crate) descs: Vec<Description>,
+    pub(crate) alloc: Global,
 }
 
 impl<'w> Model for Outside<'w> {
@@ -95,7 +95,7 @@ impl<'w> Outside<'w> {
     }
 
     /// What is still to be read, where it is open for reading.
-    fn unread(&self, from: Option<Desc>) -> &[u8]
+    pub(crate) fn unread(&self, from: Option<Desc>) -> &[u8]
         ensures { result.now ≡ unread (desc_at (index_of from) self.now.outside.descs) self.now.outside }
     {
         match self.description(from) {
@@ -107,11 +107,10 @@ impl<'w> Outside<'w> {
         }
     }
 
-    /// All that there is to be read was taken.
-    fn drain(&mut self, from: Option<Desc>) -> Result<(), Memory>
-        ensures { OnOk result (self.new ≡ record self.old { outside = drained_at (index_of from) self.old.outside }) }
+    /// So many bytes were read.
+    pub(crate) fn consume(&mut self, from: Option<Desc>, count: usize) -> Result<(), Memory>
+        ensures { OnOk result (self.new ≡ record self.old { outside = consumed_at count (index_of from) (desc_at (index_of from) self.old.outside.descs) self.old.outside }) }
     {
-        let count = self.unread(from).len();
         let Some(desc) = from else {
             return Ok(());
         };
@@ -121,7 +120,15 @@ impl<'w> Outside<'w> {
         Ok(())
     }
 
-    fn file_bytes(&self, path: &[u8]) -> &[u8]
+    /// All that there is to be read was taken.
+    fn drain(&mut self, from: Option<Desc>) -> Result<(), Memory>
+        ensures { OnOk result (self.new ≡ record self.old { outside = drained_at (index_of from) self.old.outside }) }
+    {
+        let count = self.unread(from).len();
+        self.consume(from, count)
+    }
+
+    pub(crate) fn file_bytes(&self, path: &[u8]) -> &[u8]
         ensures { result.now ≡ file_bytes path.now self.now.outside }
     {
         match self.files.get(path) {

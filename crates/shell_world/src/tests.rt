@@ -4,11 +4,11 @@ use span_text::{List, Memory, Text};
 use std::alloc::Global;
 use std::test::Fail;
 
-fn text(alloc: Global, bytes: &str) -> Result<Text, Memory> {
+pub fn text(alloc: Global, bytes: &str) -> Result<Text, Memory> {
     Text::copy(alloc, bytes.as_bytes())
 }
 
-fn texts(alloc: Global, all: &[&str]) -> Result<List<Text>, Memory> {
+pub fn texts(alloc: Global, all: &[&str]) -> Result<List<Text>, Memory> {
     let mut list = List::new(alloc);
     for one in all {
         list.push(text(alloc, one)?)?;
@@ -56,16 +56,18 @@ fn rows(alloc: Global) -> Result<List<Row>, Memory> {
     Ok(rows)
 }
 
-fn world(alloc: Global) -> Result<World, Memory> {
+/// A world with these files, of which the later ones stand behind.
+pub fn world_of(alloc: Global, paths: &[(&str, &str)], stdin: &str) -> Result<World, Memory> {
     let mut files = List::new(alloc);
-    files.push((text(alloc, "b")?, text(alloc, "two")?))?;
-    files.push((text(alloc, "a")?, text(alloc, "one")?))?;
+    for file in paths {
+        files.push((text(alloc, file.0)?, text(alloc, file.1)?))?;
+    }
     Ok(World {
         args: texts(alloc, &["script"])?,
         env: List::new(alloc),
         files,
         rows: rows(alloc)?,
-        stdin: text(alloc, "in")?,
+        stdin: text(alloc, stdin)?,
         bounds: Bounds {
             turns: 10,
             depth: 3,
@@ -75,6 +77,10 @@ fn world(alloc: Global) -> Result<World, Memory> {
             redirect: 1,
         },
     })
+}
+
+fn world(alloc: Global) -> Result<World, Memory> {
+    world_of(alloc, &[("b", "two"), ("a", "one")], "in")
 }
 
 #[test]

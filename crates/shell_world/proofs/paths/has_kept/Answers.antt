@@ -1,0 +1,11 @@
+use Rattle.std.proofs.Common.{rules, tests}
+use Rattle.std.proofs.lemmas.Iterator.Search.{any_from_yields_List}
+use Rattle.std.proofs.lemmas.Iterator.Splits.{YieldsList-from_slice_split}
+use Rattle.shell_world.specs.Paths.{is_slash, is_kept}
+use Rattle.shell_world.proofs.paths.has_kept.Goals as goal
+
+pub returns : goal.returns
+returns c =
+    any_from_yields_List is_kept _ _ c.any.result c.any.ensures.ran
+    (YieldsList-from_slice_split _ is_slash c.args.text.now c.split.ensures.rest c.split.ensures.done c.split.ensures.closure (λ x b q k. search (rules, tests)))
+    (λ x b q k. search (rules, tests))
