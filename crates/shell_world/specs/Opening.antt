@@ -1,5 +1,5 @@
 -- What is opened (POSIX XCU 2.7, XSH open), and what a command substitution takes (2.6.3).
-use Rattle.std.specs.Prelude.{◌≡◌, ℕ, Bool, true, false, if◌then◌else◌, [], ◌∷◌, ◌++◌, length, Option, Some, None, Result, Ok, Err}
+use Rattle.std.specs.Prelude.{◌≡◌, ℕ, Bool, true, false, if◌then◌else◌, [], ◌∷◌, ◌++◌, length, take, Option, Some, None, Result, Ok, Err}
 use Rattle.shell_world.specs.declared.description.Desc.{Desc as Number}
 use Rattle.shell_world.specs.declared.description.Description.TheVariants.{Reading, Writing, Appending, Given, Buffer, Output, Errors}
 use Rattle.shell_world.specs.declared.opening.OpenFault.{OpenFault}
@@ -22,6 +22,10 @@ with_desc d o = record o { descs = o.descs ++ d ∷ [] }
 
 abbrev pub opens : Desc → Outside → Opened
 opens d o = Opens (length o.descs) (with_desc d o)
+
+-- the descriptions behind so many are taken back
+abbrev pub with_first : ℕ → Outside → Outside
+with_first count o = record o { descs = take count o.descs }
 
 -- ---- files for reading
 
@@ -62,7 +66,7 @@ write_named append (Some path) o =
 abbrev pub write_opened : Bool → Text → Outside → Opened
 write_opened append text o = write_named append (path_of text) o
 
--- ---- what a call that opens answers, and what it leaves: a refusal changes nothing
+-- ---- what a call that opens answers, and what it leaves: neither a refusal nor want of memory changes anything
 
 abbrev pub IsRefused : OpenFault → Opened → Running → Running → Type 0
 IsRefused fault opened before after = (opened ≡ Refused fault) × (after ≡ before)
@@ -72,7 +76,7 @@ IsOpenedAs opened number before after = (opened ≡ Opens number.0 after.outside
 
 abbrev pub IsOpened : Opened → Result Number OpenFault → Running → Running → Type 0
 IsOpened opened (Ok number) before after = IsOpenedAs opened number before after
-IsOpened opened (Err fault.Memory) before after = Unit {0}
+IsOpened opened (Err fault.Memory) before after = after ≡ before
 IsOpened opened (Err fault.NoPath) before after = IsRefused fault.NoPath opened before after
 IsOpened opened (Err fault.IsFolder) before after = IsRefused fault.IsFolder opened before after
 IsOpened opened (Err fault.NoFile) before after = IsRefused fault.NoFile opened before after

@@ -98,6 +98,20 @@ abbrev pub written_on_at : Option ℕ → Text → Option Desc → Outside → O
 written_on_at i piece None o = o
 written_on_at i piece (Some d) o = change_desc i (written_on piece d) o
 
+-- what is written next is written at this offset of the file
+abbrev pub writing_at : ℕ → Desc → Desc
+writing_at later (Writing path offset) = Writing path later
+writing_at later (Reading path offset) = Reading path offset
+writing_at later (Given text offset) = Given text offset
+writing_at later (Appending path) = Appending path
+writing_at later (Buffer text) = Buffer text
+writing_at later Output = Output
+writing_at later Errors = Errors
+
+abbrev pub moved_at : Option ℕ → ℕ → Option Desc → Outside → Outside
+moved_at i later None o = o
+moved_at i later (Some d) o = change_desc i (writing_at later d) o
+
 -- the record and the outside once a piece that isn't empty was written to a description
 abbrev pub write_to : Option ℕ → Option Desc → Text → Trace × Outside → Trace × Outside
 write_to i None piece x = x

@@ -1,9 +1,9 @@
 //! Open descriptions (POSIX XBD 3.258), and the descriptors that stand for them (2.7).
 
-ghost use Rattle.std.specs.Prelude.{◌≡◌, ◌+◌, ◌<◌, Some, IfOk, OnOk};
+ghost use Rattle.std.specs.Prelude.{◌≡◌, ◌+◌, ◌<◌, Some, IfOk, OnOk, OnErr};
 ghost use Rattle.shell_world.specs.Texts.{nth, with_nth};
 ghost use Rattle.shell_world.specs.Opening.{buffer_text, emptied};
-ghost use Rattle.shell_world.specs.Outside.{index_at, read_on, written_on};
+ghost use Rattle.shell_world.specs.Outside.{index_at, read_on, written_on, writing_at};
 ghost use Rattle.shell_world.specs.Running.{index_of};
 ghost use Rattle.shell_world.specs.World.{start_fds};
 
@@ -32,7 +32,7 @@ pub enum Description {
 }
 
 /// An offset that no number can hold is refused as memory is.
-fn forward(offset: usize, count: usize) -> Result<usize, Memory>
+pub fn forward(offset: usize, count: usize) -> Result<usize, Memory>
     ensures { IfOk result (λ n. n ≡ offset + count) }
 {
     match offset.checked_add(count) {
@@ -44,7 +44,8 @@ fn forward(offset: usize, count: usize) -> Result<usize, Memory>
 impl Description {
     /// So many bytes were read.
     pub fn read_on(&mut self, count: usize) -> Result<(), Memory>
-        ensures { OnOk result (self.new ≡ read_on count self.old) }
+        ensures ok { OnOk result (self.new ≡ read_on count self.old) }
+        ensures err { OnErr result (self.new ≡ self.old) }
     {
         match self {
             Description::Reading { path: _, offset } => {
@@ -61,7 +62,8 @@ impl Description {
 
     /// These bytes were written.
     pub fn write_on(&mut self, piece: &[u8]) -> Result<(), Memory>
-        ensures { OnOk result (self.new ≡ written_on piece.now self.old) }
+        ensures ok { OnOk result (self.new ≡ written_on piece.now self.old) }
+        ensures err { OnErr result (self.new ≡ self.old) }
     {
         match self {
             Description::Writing { path: _, offset } => {
@@ -83,6 +85,17 @@ impl Description {
         match self {
             Description::Buffer { text } => mem::replace(text, Text::new(alloc)),
             _ => Text::new(alloc),
+        }
+    }
+}
+
+impl Description {
+    /// What is written next is written at this offset of the file.
+    pub fn write_at(&mut self, later: usize)
+        ensures { self.new ≡ writing_at later self.old }
+    {
+        if let Description::Writing { path: _, offset } = self {
+            *offset = later;
         }
     }
 }

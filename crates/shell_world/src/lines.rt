@@ -1,6 +1,6 @@
 //! A line is read.
 
-ghost use Rattle.std.specs.Prelude.{◌≡◌, IfOk, OnOk};
+ghost use Rattle.std.specs.Prelude.{◌≡◌, IfOk, OnOk, OnErr};
 ghost use Rattle.shell_world.specs.Outside.{desc_at, unread, consumed_at};
 ghost use Rattle.shell_world.specs.Lines.{line_len, without_nul, is_ended, newlines, line_taken, line_of, line_read_at};
 ghost use Rattle.shell_world.specs.Running.{index_of};
@@ -64,6 +64,7 @@ impl<'w> Outside<'w> {
     pub fn read_line(&mut self, from: Option<Desc>) -> Result<Line, Memory>
         ensures line { IfOk result (λ line. line ≡ line_of (unread (desc_at (index_of from) self.old.outside.descs) self.old.outside)) }
         ensures new { OnOk result (self.new ≡ record self.old { outside = line_read_at (index_of from) self.old.outside }) }
+        ensures err { OnErr result (self.new ≡ self.old) }
     {
         let rest = self.unread(from);
         let line = line_of(self.alloc, rest)?;

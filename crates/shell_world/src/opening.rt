@@ -3,7 +3,7 @@
 ghost use Rattle.std.specs.Prelude.{◌≡◌, length, Some, IfOk, OnOk, OnErr};
 ghost use Rattle.shell_world.specs.Outside.{desc_at, file_bytes};
 ghost use Rattle.shell_world.specs.Paths.{path_of, found_at, names_of};
-ghost use Rattle.shell_world.specs.Opening.{IsOpened, IsOpenedAs, with_desc, read_opened, write_opened, written_path, text_opened, buffer_opened, kept, writer, buffer_text, taken_at};
+ghost use Rattle.shell_world.specs.Opening.{IsOpened, IsOpenedAs, with_desc, with_first, read_opened, write_opened, written_path, text_opened, buffer_opened, kept, writer, buffer_text, taken_at};
 ghost use Rattle.shell_world.specs.Running.{index_of, with_file};
 ghost use Rattle.shell_world.specs.declared.opening.OpenFault.TheVariants as fault;
 
@@ -99,7 +99,8 @@ impl<'w> Outside<'w> {
 
     /// Opens the file that the text names, to be read from its start (POSIX XCU 2.7.1). It is refused with `NoPath`
     /// where the text names no path, with `IsFolder` where the path is a folder, and with `NoFile` where nothing is
-    /// there. Then nothing changes.
+    /// there. Then nothing changes, and neither
+    /// does it where memory is missing.
     pub fn open_read(&mut self, path: &[u8]) -> Result<Desc, OpenFault>
         ensures { IsOpened (read_opened path.now self.old.outside) result self.old self.new }
     {
@@ -118,18 +119,35 @@ impl<'w> Outside<'w> {
 
     /// Makes a file, or empties it, or leaves it as it is where it is to be appended to.
     fn make_file(&mut self, append: bool, path: Text) -> Result<(), Memory>
-        ensures { OnOk result (self.new ≡ with_file self.old path (kept append (file_bytes path self.old.outside))) }
+        ensures ok { OnOk result (self.new ≡ with_file self.old path (kept append (file_bytes path self.old.outside))) }
+        ensures err { OnErr result (self.new ≡ self.old) }
     {
         let text = Text::copy(self.alloc, kept(append, self.file_bytes(path.bytes())))?;
         self.files.insert(path, text)
     }
 
+    /// Takes back the descriptions behind so many.
+    fn keep_first(&mut self, count: usize)
+        ensures { self.new ≡ record self.old { outside = with_first count self.old.outside } }
+    {
+        self.descs.truncate(count);
+    }
+
+    /// The description comes first, since it can be taken back where the file can't be made.
     fn open_path(&mut self, append: bool, path: Text) -> Result<Desc, Memory>
-        ensures { IfOk result (λ desc. IsOpenedAs (written_path append path self.old.outside) desc self.old self.new) }
+        ensures ok { IfOk result (λ desc. IsOpenedAs (written_path append path self.old.outside) desc self.old self.new) }
+        ensures err { OnErr result (self.new ≡ self.old) }
     {
         let named = Text::copy(self.alloc, path.bytes())?;
-        self.make_file(append, named)?;
-        self.open(writer(append, path))
+        let count = self.descs.len();
+        let desc = self.open(writer(append, path))?;
+        match self.make_file(append, named) {
+            Ok(()) => Ok(desc),
+            Err(memory) => {
+                self.keep_first(count);
+                Err(memory)
+            }
+        }
     }
 
     /// Opens the file that the text names, to be written from its start, or with `append` at its end (POSIX XCU 2.7.2,
@@ -154,14 +172,16 @@ impl<'w> Outside<'w> {
 
     /// Opens a text to be read: a here-document (POSIX XCU 2.7.4).
     pub fn open_text(&mut self, text: Text) -> Result<Desc, Memory>
-        ensures { IfOk result (λ desc. IsOpenedAs (text_opened text self.old.outside) desc self.old self.new) }
+        ensures ok { IfOk result (λ desc. IsOpenedAs (text_opened text self.old.outside) desc self.old self.new) }
+        ensures err { OnErr result (self.new ≡ self.old) }
     {
         self.open(Description::Given { text, offset: 0 })
     }
 
     /// Opens a buffer to be written, without bytes: what a command substitution takes (POSIX XCU 2.6.3).
     pub fn open_buffer(&mut self) -> Result<Desc, Memory>
-        ensures { IfOk result (λ desc. IsOpenedAs (buffer_opened self.old.outside) desc self.old self.new) }
+        ensures ok { IfOk result (λ desc. IsOpenedAs (buffer_opened self.old.outside) desc self.old self.new) }
+        ensures err { OnErr result (self.new ≡ self.old) }
     {
         self.open(Description::Buffer {
             text: Text::new(self.alloc),

@@ -1,15 +1,15 @@
 //! The outside of a run: its files, what is open, and the record of what was called and written.
 
-ghost use Rattle.std.specs.Prelude.{◌≡◌, ◌++◌, length, drop, Some, IfOk, OnOk};
+ghost use Rattle.std.specs.Prelude.{◌≡◌, ◌++◌, length, drop, Some, IfOk, OnOk, OnErr};
 ghost use Rattle.std.specs.Option.{option_copied};
-ghost use Rattle.shell_world.specs.Outside.{desc_at, unread, consumed_at, drained_at, file_bytes, padded, overwritten, is_written, write_to, written_on_at, takes_piece, written_at};
+ghost use Rattle.shell_world.specs.Outside.{desc_at, unread, consumed_at, drained_at, file_bytes, padded, overwritten, is_written, write_to, written_on_at, moved_at, takes_piece, written_at};
 ghost use Rattle.shell_world.specs.Calls.{recorded, taken_by, input_after_at, answered};
 ghost use Rattle.shell_world.specs.Texts.{map_of};
 ghost use Rattle.shell_world.specs.World.{start_fds};
 ghost use Rattle.shell_world.specs.Running.{index_of, with_file, with_both, after_call, row_call, call_of, report_of_run, started};
 
 use crate::copies::{copy_pairs, copy_texts};
-use crate::description::{Desc, Description, Fds};
+use crate::description::{Desc, Description, Fds, forward};
 use crate::table::{answer_at, choose, times};
 use crate::text_map::TextMap;
 use crate::world::{Answer, Call, End, Report, Row, RowInput, World};
@@ -109,7 +109,8 @@ impl<'w> Outside<'w> {
 
     /// So many bytes were read.
     pub(crate) fn consume(&mut self, from: Option<Desc>, count: usize) -> Result<(), Memory>
-        ensures { OnOk result (self.new ≡ record self.old { outside = consumed_at count (index_of from) (desc_at (index_of from) self.old.outside.descs) self.old.outside }) }
+        ensures ok { OnOk result (self.new ≡ record self.old { outside = consumed_at count (index_of from) (desc_at (index_of from) self.old.outside.descs) self.old.outside }) }
+        ensures err { OnErr result (self.new ≡ self.old) }
     {
         let Some(desc) = from else {
             return Ok(());
@@ -139,7 +140,8 @@ impl<'w> Outside<'w> {
 
     /// Puts these bytes at the end of a file, which is made where it isn't there.
     fn append_file(&mut self, path: Text, piece: &[u8]) -> Result<(), Memory>
-        ensures { OnOk result (self.new ≡ with_file self.old path (file_bytes path self.old.outside ++ piece.now)) }
+        ensures ok { OnOk result (self.new ≡ with_file self.old path (file_bytes path self.old.outside ++ piece.now)) }
+        ensures err { OnErr result (self.new ≡ self.old) }
     {
         let mut text = Text::copy(self.alloc, self.file_bytes(path.bytes()))?;
         text.append(piece)?;
@@ -148,7 +150,8 @@ impl<'w> Outside<'w> {
 
     /// Puts these bytes over those of a file at an offset.
     fn overwrite_file(&mut self, path: Text, offset: usize, piece: &[u8]) -> Result<(), Memory>
-        ensures { OnOk result (self.new ≡ with_file self.old path (overwritten offset piece.now (file_bytes path self.old.outside))) }
+        ensures ok { OnOk result (self.new ≡ with_file self.old path (overwritten offset piece.now (file_bytes path self.old.outside))) }
+        ensures err { OnErr result (self.new ≡ self.old) }
     {
         let text = overwritten(self.alloc, offset, piece, self.file_bytes(path.bytes()))?;
         self.files.insert(path, text)
@@ -156,7 +159,8 @@ impl<'w> Outside<'w> {
 
     /// What was written through a description is told to it.
     fn write_on(&mut self, to: Option<Desc>, piece: &[u8]) -> Result<(), Memory>
-        ensures { OnOk result (self.new ≡ record self.old { outside = written_on_at (index_of to) piece.now (desc_at (index_of to) self.old.outside.descs) self.old.outside }) }
+        ensures ok { OnOk result (self.new ≡ record self.old { outside = written_on_at (index_of to) piece.now (desc_at (index_of to) self.old.outside.descs) self.old.outside }) }
+        ensures err { OnErr result (self.new ≡ self.old) }
     {
         let Some(desc) = to else {
             return Ok(());
@@ -167,10 +171,23 @@ impl<'w> Outside<'w> {
         Ok(())
     }
 
+    /// What is written next through a description is written at this offset of its file.
+    fn move_to(&mut self, to: Option<Desc>, offset: usize)
+        ensures { self.new ≡ record self.old { outside = moved_at (index_of to) offset (desc_at (index_of to) self.old.outside.descs) self.old.outside } }
+    {
+        let Some(desc) = to else {
+            return;
+        };
+        if let Some(description) = self.descs.get_mut(desc.index()) {
+            description.write_at(offset);
+        }
+    }
+
     /// Writes a piece that isn't empty, and says whether something is open for writing there.
     fn write_piece(&mut self, to: Option<Desc>, piece: &[u8]) -> Result<bool, Memory>
         ensures is { IfOk result (λ done. done ≡ is_written (desc_at (index_of to) self.old.outside.descs)) }
         ensures new { OnOk result (self.new ≡ with_both self.old (write_to (index_of to) (desc_at (index_of to) self.old.outside.descs) piece.now (self.old.trace, self.old.outside))) }
+        ensures err { OnErr result (self.new ≡ self.old) }
     {
         match self.description(to) {
             None => Ok(false),
@@ -196,18 +213,20 @@ impl<'w> Outside<'w> {
             Some(Description::Writing { path, offset }) => {
                 let path = Text::copy(self.alloc, path.bytes())?;
                 let offset = *offset;
+                let later = forward(offset, piece.len())?;
                 self.overwrite_file(path, offset, piece)?;
-                self.write_on(to, piece)?;
+                self.move_to(to, later);
                 Ok(true)
             }
         }
     }
 
     /// Writes these bytes, and says whether that can be done: it can't where there are any and nothing is open for
-    /// writing. Then nothing changes.
+    /// writing. Then nothing changes, and neither does it where memory is missing.
     pub fn write(&mut self, to: Option<Desc>, bytes: &[u8]) -> Result<bool, Memory>
         ensures is { IfOk result (λ done. done ≡ takes_piece (index_of to) bytes.now self.old.outside.descs) }
         ensures new { OnOk result (self.new ≡ with_both self.old (written_at (index_of to) bytes.now (self.old.trace, self.old.outside))) }
+        ensures err { OnErr result (self.new ≡ self.old) }
     {
         if bytes.is_empty() {
             return Ok(true);
