@@ -1,5 +1,6 @@
 //! What tests do with an outside, step by step, and what it shows.
 
+use crate::copies::copy_texts;
 use crate::tests::{text, texts, world_of};
 use crate::{Desc, End, Fds, Line, OpenFault, Outside};
 use span_text::{List, Memory, Text};
@@ -130,7 +131,7 @@ fn call(
     name: &str,
     shown: &mut Text,
 ) -> Result<(), Memory> {
-    let argv = texts(alloc, &[name])?;
+    let argv = copy_texts(alloc, &texts(alloc, &[name])?)?;
     let status = outside.call(&argv, &List::new(alloc), fds)?;
     shown.append([b'0' + status % 10].as_slice())?;
     shown.append(b" ")

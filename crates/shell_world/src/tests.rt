@@ -1,5 +1,4 @@
-use crate::copies::copy_texts;
-use crate::{Answer, Bounds, Desc, End, Latitude, Outside, Row, RowInput, RowKey, TextMap, World};
+use crate::{Answer, Bounds, End, Latitude, Outside, Row, RowInput, RowKey, TextMap, World};
 use span_text::{List, Memory, Text};
 use std::alloc::Global;
 use std::test::Fail;
@@ -115,30 +114,5 @@ fn the_first_row_that_fits_answers_in_turn(rt: HostRuntime) -> Result<(), Fail> 
     assert_eq!(rt; report.out.bytes(), b"ABB".as_slice());
     assert_eq!(rt; report.err.bytes(), b"ee".as_slice());
     assert_eq!(rt; report.turns, 2);
-    Ok(())
-}
-
-#[test]
-fn an_exact_row_answers_its_input_alone(rt: HostRuntime) -> Result<(), Fail> {
-    let world = world(rt.alloc())?;
-    let (mut outside, fds) = Outside::start(rt.alloc(), &world)?;
-    let env = List::new(rt.alloc());
-    let argv = copy_texts(rt.alloc(), &texts(rt.alloc(), &["sum", "x"])?)?;
-    assert_eq!(rt; outside.call(&argv, &env, &fds)?, 0);
-    assert_eq!(rt; outside.call(&argv, &env, &fds)?, 127);
-    Ok(())
-}
-
-#[test]
-fn what_is_not_open_for_writing_takes_nothing(rt: HostRuntime) -> Result<(), Fail> {
-    let world = world(rt.alloc())?;
-    let (mut outside, fds) = Outside::start(rt.alloc(), &world)?;
-    assert_eq!(rt; outside.write(fds.get(1), b"out")?, true);
-    assert_eq!(rt; outside.write(fds.get(0), b"in")?, false);
-    assert_eq!(rt; outside.write(fds.get(3), b"x")?, false);
-    assert_eq!(rt; outside.write(None::<Desc>, b"")?, true);
-    let report = outside.finish(End::Ended(0), 0);
-    assert_eq!(rt; report.out.bytes(), b"out".as_slice());
-    assert_eq!(rt; report.err.bytes(), b"".as_slice());
     Ok(())
 }
