@@ -4,7 +4,7 @@ use Rattle.std.specs.Prelude.{◌||◌, ◌&&◌, not, ◌==◌, nat_le}
 use Rattle.span_text.specs.Names.{begins_name, continues_name, is_digit}
 use Rattle.sh_grammar.specs.Shape.{Param, named, digits, FillTest, count, as_is, length_of}
 use Rattle.sh_grammar.specs.Bytes.{Text, is_join, clear, gap, starts, with_byte, run_from, name_run, digit_run, in_word, unit_starts}
-use Rattle.sh_grammar.specs.Expansions.{◌>>=◌, Head, closed, filling, trimming, named_as, special, one_digit, param_at, long_param_at, fill_test, fills, trims, operator_at, is_close, tail, length_head, or_else, is_dash, hash_head, is_hash, head_at, behind, behind_two, dollar_param, dollar_head}
+use Rattle.sh_grammar.specs.Expansions.{◌>>=◌, Head, closed, filling, trimming, named_as, special, one_digit, param_at, long_param_at, fill_test, fills, trims, operator_at, is_close, tail, length_head, or_else, is_dash, hash_head, is_hash, head_at, behind, behind_two, dollar_param, dollar_head, dollar_sum}
 use Rattle.sh_grammar.specs.Tokens as tokens
 use Rattle.sh_grammar.specs.Tokens.{name_at, assign_at, tilde_at}
 use Rattle.sh_grammar.proofs.Tools.{chosen, chosen_by, If, then, chosen_some}
@@ -145,3 +145,9 @@ unfolding dollar_head
 dollar_head_fits bytes =
     then (Left (length bytes)) (RestLeft {A = Head} (length bytes)) (behind_two 36 123 bytes) (λ rest. head_at (clear rest)) (behind_two_fits 36 123 bytes)
         (λ rest h. let c = clear_fits rest in left_rest (length (clear rest)) (length bytes) (head_at (clear rest)) (omega arith) (head_fits (clear rest)))
+
+pub dollar_sum_fits : (bytes : Text) → If (Left (length bytes)) (dollar_sum bytes)
+unfolding dollar_sum
+dollar_sum_fits bytes =
+    then (Left (length bytes)) (Left (length bytes)) (behind_two 36 40 bytes) (λ rest. behind 40 (clear rest)) (behind_two_fits 36 40 bytes)
+        (λ rest h. shorter (length rest) (length bytes) (behind 40 (clear rest)) (omega arith) (behind_clear_fits 40 rest))

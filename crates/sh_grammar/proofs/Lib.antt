@@ -6,3 +6,4 @@ pub mod Names
 pub mod Lines
 pub mod Steps
 pub mod Ends
+pub mod Known

@@ -6,18 +6,20 @@ use Rattle.text_grammar.specs.Language.{one_if}
 use Rattle.sh_grammar.specs.Shape.{Parts, Param, RedirectOp}
 use Rattle.sh_grammar.specs.Bytes.{Text, Context, clear, gap, in_word, literal_run, unit_starts, is_escaped}
 use Rattle.sh_grammar.specs.Tokens.{Op, End, Newline, Semi, SemiSemi, AndIf, OrIf, Pipe, Open, Close, Less, Great, DGreat, DLess, DLessDash, LessAnd, GreatAnd, Io, Word, Other, Key, If, Then, Elif, Else, Fi, For, In, Until, While, Do, Done, Case, Esac, OpenBrace, CloseBrace, Bang, token, is_token, key_text, bare, is_whole, is_key, name_at, assign_at, tilde_at}
-use Rattle.sh_grammar.specs.Expansions.{◌>>=◌, Head, closed as closed_head, filling, trimming, dollar_param, dollar_head, behind_two}
+use Rattle.sh_grammar.specs.Expansions.{◌>>=◌, Head, closed as closed_head, filling, trimming, dollar_param, dollar_head, dollar_sum, behind_two}
 use Rattle.sh_grammar.specs.Bodies.{Owed, delimiter_at, bodies_at}
-use Rattle.sh_grammar.specs.State.{State, move, Node, text_node}
-use Rattle.sh_grammar.specs.Table.{Step, op, key, line, ends, name, assign_name, descriptor, file_op, here, copy, to_word, tilde, literal, escaped, exact, quote, dollar, closed, open_head, open_subst, close_brace, enter, leave}
-use Rattle.sh_grammar.specs.Steps.{Known, limit, Read, silent, gives, behind, here_node, here_after, here_read, op_read, is_copied, copied_read, copy_read, digit_read, literal_read, escaped_read, quoted_run, closed_read, head_read, line_read, none_owed, run_step}
+use Rattle.sh_grammar.specs.State.{State, move, Node, text_node, expr_node}
+use Rattle.span_text.specs.declared.expr.Expr.{Expr}
+use Rattle.sh_grammar.specs.Sums.{is_sum_byte, sum_run, with_bytes, with_operand, no_sum, innermost, without_innermost}
+use Rattle.sh_grammar.specs.Table.{Step, op, key, line, ends, name, assign_name, descriptor, file_op, here, copy, to_word, tilde, literal, escaped, exact, quote, dollar, closed, open_head, open_subst, close_brace, open_sum, sum_bytes, operand, sum_open, sum_close, close_sum, enter, leave}
+use Rattle.sh_grammar.specs.Steps.{Known, limit, Read, silent, gives, behind, here_node, here_after, here_read, op_read, is_copied, copied_read, copy_read, digit_read, literal_read, escaped_read, quoted_run, closed_read, head_read, with_sums, bytes_read, line_read, none_owed, run_step}
 use Rattle.sh_grammar.specs.Depths.{op_takes, step_takes}
 use Rattle.span_text.specs.KnownNames.{same_text}
 use Rattle.sh_grammar.proofs.Tools as tools
 use Rattle.sh_grammar.proofs.Tools.{chosen, chosen_by, then, if_some}
 use Rattle.sh_grammar.proofs.Lengths.{clear_fits, gap_fits, literal_fits}
 use Rattle.sh_grammar.proofs.Fronts.{TokenFits, token_fits, found_fits}
-use Rattle.sh_grammar.proofs.Heads.{Rest, Left, RestLeft, behind_two_fits, dollar_param_fits, dollar_head_fits}
+use Rattle.sh_grammar.proofs.Heads.{Rest, Left, RestLeft, behind_two_fits, dollar_param_fits, dollar_head_fits, dollar_sum_fits}
 use Rattle.sh_grammar.proofs.Names.{name_fits, assign_fits, tilde_fits}
 use Rattle.sh_grammar.proofs.Lines.{delimiter_fits, bodies_fit}
 
@@ -106,6 +108,25 @@ digit_fits : (s : State) (n : ℕ) (bytes : Text) → length bytes ≤ n → Beh
 digit_fits s n [] le = tt
 digit_fits s n (b ∷ bs) le = omega arith
 
+-- ---- arithmetic expansions
+
+sum_run_fits : (bs : Text) → length (sum_run bs).0 + length (sum_run bs).1 ≤ length bs
+unfolding sum_run
+sum_run_fits [] = omega arith
+sum_run_fits (b ∷ bs) =
+    let i = sum_run_fits bs in
+    let p : length (b ∷ (sum_run bs).0) + length (sum_run bs).1 ≤ suc (length bs) = omega arith in
+    let q : length {A = ℕ} [] + length (b ∷ bs) ≤ suc (length bs) = omega arith in
+    chosen (λ (x : Text × Text). length x.0 + length x.1 ≤ suc (length bs)) (is_sum_byte b bs) (b ∷ (sum_run bs).0, (sum_run bs).1) ([], b ∷ bs) p q
+
+bytes_fit : (s : State) (n : ℕ) (run : Text × Text) → length run.0 + length run.1 ≤ n → Behind n 1 (bytes_read s run)
+bytes_fit s n ([], rest) le = tt
+bytes_fit s n (b ∷ bs, rest) le = omega arith
+
+expr_fits : (s : State) (n : ℕ) (rest : Text) (o : Option Expr) → length rest + 1 ≤ n → Behind n 1 (o >>= λ e. Some (said (expr_node e), record s { bytes = rest; sums = without_innermost s.sums }))
+expr_fits s n rest None le = tt
+expr_fits s n rest (Some e) le = le
+
 -- ---- redirections
 
 op_fits : (s : State) (n : ℕ) (x : Op × Text) → TokenFits n x → Behind n 1 (op_read s x)
@@ -183,6 +204,12 @@ fits k closed s =
 fits k open_head s = on (length s.bytes) (RestLeft {A = Head} (length s.bytes)) (dollar_head s.bytes) (λ x. head_read s x) (dollar_head_fits s.bytes) (λ x h. open_fits s (length s.bytes) x h)
 fits k open_subst s = on (length s.bytes) (Left (length s.bytes)) (behind_two 36 40 s.bytes) _ (behind_two_fits 36 40 s.bytes) (λ rest h. h)
 fits k close_brace s = on (length s.bytes) (Left (length s.bytes)) (behind 125 (clear s.bytes)) _ (behind_clear 125 s.bytes) (λ rest h. h)
+fits k open_sum s = on (length s.bytes) (Left (length s.bytes)) (dollar_sum s.bytes) _ (dollar_sum_fits s.bytes) (λ rest h. h)
+fits k sum_bytes s = bytes_fit s (length s.bytes) (sum_run s.bytes) (sum_run_fits s.bytes)
+fits k operand s = omega arith
+fits k sum_open s = on (length s.bytes) (Left (length s.bytes)) (behind 40 s.bytes) _ (behind_fits 40 s.bytes) (λ rest h. h)
+fits k sum_close s = on (length s.bytes) (Left (length s.bytes)) (behind 41 s.bytes) _ (behind_fits 41 s.bytes) (λ rest h. h)
+fits k close_sum s = on (length s.bytes) (Left (length s.bytes)) (behind_two 41 41 s.bytes) _ (behind_two_fits 41 41 s.bytes) (λ rest h. expr_fits s (length s.bytes) rest (innermost s.sums) h)
 fits k enter s = chosen (Behind (length s.bytes) 0) (nat_lt s.depth limit) _ _ (omega arith) tt
 fits k leave s = omega arith
 
