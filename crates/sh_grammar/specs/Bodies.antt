@@ -1,6 +1,6 @@
 -- Here-documents: delimiters and the lines of bodies (POSIX 2.7.4).
 use Rattle.std.specs.Prelude.{ℕ, Bool, true, false, ◌||◌, ◌&&◌, not, ◌==◌, List, [], ◌∷◌, Option, Some, None, if◌then◌else◌}
-use Rattle.sh_grammar.specs.Bytes.{Text, is_join, in_word, in_double, is_plain, is_escaped, unit_starts}
+use Rattle.sh_grammar.specs.Bytes.{Text, clear, starts, is_join, in_word, in_double, is_plain, is_escaped, unit_starts}
 use Rattle.sh_grammar.specs.Expansions.{◌>>=◌}
 
 -- a here-document whose body is still to come
@@ -35,20 +35,26 @@ quoted x = x >>= λ y. Some ((y.0.0, true), y.1)
 abbrev pub with : ℕ → Read → Read
 with b x = x >>= λ y. Some ((b ∷ y.0.0, y.0.1), y.1)
 
+-- behind a `$`: the shells disagree on how such a word goes on
+abbrev pub opens_expansion : Text → Bool
+opens_expansion bytes = starts (λ b. b == 123 || b == 40) (clear bytes)
+
+-- no line holds a newline, so a delimiter doesn't either
 unfoldable pub delimiter_from : Mode → Text → Read
 delimiter_from bare [] = Some (([], false), [])
 delimiter_from bare (b ∷ bs) = if is_join b bs then delimiter_from joined bs
     else (if b == 39 then quoted (delimiter_from single bs)
     else (if b == 34 then quoted (delimiter_from doubled bs)
     else (if b == 92 then quoted (delimiter_from kept bs)
-    else (if is_plain in_word b || b == 36 then with b (delimiter_from bare bs) else Some (([], false), b ∷ bs)))))
+    else (if b == 36 && opens_expansion bs then None
+    else (if is_plain in_word b || b == 36 then with b (delimiter_from bare bs) else Some (([], false), b ∷ bs))))))
 delimiter_from single [] = None
-delimiter_from single (b ∷ bs) = if b == 39 then delimiter_from bare bs else (if b == 0 then None else with b (delimiter_from single bs))
+delimiter_from single (b ∷ bs) = if b == 39 then delimiter_from bare bs else (if b == 10 || b == 0 then None else with b (delimiter_from single bs))
 delimiter_from doubled [] = None
 delimiter_from doubled (b ∷ bs) = if is_join b bs then delimiter_from joined_doubled bs
     else (if b == 34 then delimiter_from bare bs
     else (if b == 92 then delimiter_from kept_doubled bs
-    else (if b == 96 || b == 0 then None else with b (delimiter_from doubled bs))))
+    else (if b == 96 || b == 10 || b == 0 then None else with b (delimiter_from doubled bs))))
 delimiter_from kept [] = None
 delimiter_from kept (b ∷ bs) = if b == 0 then None else with b (delimiter_from bare bs)
 delimiter_from kept_doubled [] = None
