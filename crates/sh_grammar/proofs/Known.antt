@@ -11,7 +11,7 @@ use Rattle.sh_grammar.specs.Expansions.{◌>>=◌}
 use Rattle.sh_grammar.specs.Bodies.{Owed, delimiter_at}
 use Rattle.sh_grammar.specs.State.{State, start_at, Node, word_in}
 use Rattle.sh_grammar.specs.Table.{body_parts, Step, op, key, line, ends, name, assign_name, descriptor, file_op, here, copy, to_word, tilde, literal, escaped, exact, quote, dollar, closed, open_head, open_subst, close_brace, open_sum, sum_bytes, operand, sum_open, sum_close, close_sum, enter, leave}
-use Rattle.sh_grammar.specs.Steps.{Known, Read, here_node, here_after, here_read, run_step}
+use Rattle.sh_grammar.specs.Steps.{Known, Read, word_place, here_node, here_after, here_read, run_step}
 use Rattle.sh_grammar.specs.Spelling.{knowing, no_parts, sh, levels, sh_with}
 use Rattle.sh_grammar.proofs.Ends.{ends_with}
 
@@ -33,17 +33,25 @@ known_node : (f : ℕ → Text → Option Parts) (s : State) (literal : Bool) �
 known_node f s true = (_, refl)
 known_node f s false = (_, refl)
 
-after_over : (k : Known) (f : ℕ → Text → Option Parts) (s : State) (strips : Bool) (o : Option ((Text × Bool) × Text)) →
-    Over (o >>= λ d. here_node k s d.0.1 >>= λ x. Some (said x, record s { bytes = d.1; owed = s.owed ++ record { delimiter = d.0.0; literal = d.0.1; strips = strips } ∷ []; named = suc s.named }))
-        (o >>= λ d. here_node (nothing f) s d.0.1 >>= λ x. Some (said x, record s { bytes = d.1; owed = s.owed ++ record { delimiter = d.0.0; literal = d.0.1; strips = strips } ∷ []; named = suc s.named }))
+-- what stands behind a delimiter
+abbrev named_at : State → Bool → (Text × Bool) × Text → State
+named_at s strips d = record s { bytes = d.1; owed = s.owed ++ record { delimiter = d.0.0; literal = d.0.1; strips = strips } ∷ []; named = suc s.named }
+
+-- the redirection to a here-document with this delimiter
+abbrev delimited : Known → State → Bool → Option ((Text × Bool) × Text) → Read
+delimited k s strips o = o >>= λ d. here_node k s d.0.1 >>= λ x. Some (said x, named_at s strips d)
+
+after_over : (k : Known) (f : ℕ → Text → Option Parts) (s : State) (strips : Bool) (o : Option ((Text × Bool) × Text)) → Over (delimited k s strips o) (delimited (nothing f) s strips o)
 after_over k f s strips None e x i = absurd cc
-after_over k f s strips (Some d) e x i =
-    node_over (record s { bytes = d.1; owed = s.owed ++ record { delimiter = d.0.0; literal = d.0.1; strips = strips } ∷ []; named = suc s.named })
-        (here_node k s d.0.1) (here_node (nothing f) s d.0.1) (known_node f s d.0.1) e x i
+after_over k f s strips (Some d) e x i = node_over (named_at s strips d) (here_node k s d.0.1) (here_node (nothing f) s d.0.1) (known_node f s d.0.1) e x i
+
+place_over : (k : Known) (f : ℕ → Text → Option Parts) (s : State) (strips : Bool) (o : Option Text) → Over (o >>= λ place. delimited k s strips (delimiter_at place)) (o >>= λ place. delimited (nothing f) s strips (delimiter_at place))
+place_over k f s strips None e x i = absurd cc
+place_over k f s strips (Some place) e x i = after_over k f s strips (delimiter_at place) e x i
 
 here_over : (k : Known) (f : ℕ → Text → Option Parts) (s : State) (t : Op × Text) → Over (here_read k s t) (here_read (nothing f) s t)
-here_over k f s (DLess, rest) e x i = after_over k f s false (delimiter_at (gap rest)) e x i
-here_over k f s (DLessDash, rest) e x i = after_over k f s true (delimiter_at (gap rest)) e x i
+here_over k f s (DLess, rest) e x i = place_over k f s false (word_place rest) e x i
+here_over k f s (DLessDash, rest) e x i = place_over k f s true (word_place rest) e x i
 here_over k f s t e x i = absurd cc
 
 step_over : (k : Known) (f : ℕ → Text → Option Parts) (p : Step) (s : State) → Over (run_step k p s) (run_step (nothing f) p s)
@@ -85,10 +93,20 @@ over k f = record { step = λ p s e x i. step_over k f p s e x i; test = λ p s.
 abbrev expand_in : ℕ → ℕ → Text → Option Parts
 expand_in n depth text = vals (sh n []) (rule body_parts) (start_at depth text) >>= λ x. vals (sh n x.1.found) (rule body_parts) (start_at depth text) >>= λ y. Some (word_in y.0)
 
+-- what is known, where bodies are at most n deep
+abbrev pub known_in : ℕ → List Text → Known
+known_in zero bodies = record { bodies = bodies; expand = no_parts }
+known_in (suc n) bodies = record { bodies = bodies; expand = expand_in n }
+
+pub sh_knows : (n : ℕ) (bodies : List Text) → sh n bodies ≡ knowing (known_in n bodies)
+unfolding sh
+sh_knows zero bodies = refl
+sh_knows (suc n) bodies = refl
+
 allows_in : (n : ℕ) (bodies : List Text) → Allows (sh n bodies) (sh n [])
 unfolding sh
-allows_in zero bodies = over (record { bodies = bodies; expand = no_parts }) no_parts
-allows_in (suc n) bodies = over (record { bodies = bodies; expand = expand_in n }) (expand_in n)
+allows_in zero bodies = over (known_in zero bodies) no_parts
+allows_in (suc n) bodies = over (known_in (suc n) bodies) (expand_in n)
 
 pub later : Later sh_with []
 later = record { ends = ends_with; allows = λ bodies. allows_in levels bodies }

@@ -7,3 +7,5 @@ pub mod Lines
 pub mod Steps
 pub mod Ends
 pub mod Known
+pub mod Pieces
+pub mod Stuck

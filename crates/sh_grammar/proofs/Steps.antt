@@ -12,7 +12,7 @@ use Rattle.sh_grammar.specs.State.{State, move, Node, text_node, expr_node}
 use Rattle.span_text.specs.declared.expr.Expr.{Expr}
 use Rattle.sh_grammar.specs.Sums.{is_sum_byte, sum_run, with_bytes, with_operand, no_sum, innermost, without_innermost}
 use Rattle.sh_grammar.specs.Table.{Step, op, key, line, ends, name, assign_name, descriptor, file_op, here, copy, to_word, tilde, literal, escaped, exact, quote, dollar, closed, open_head, open_subst, close_brace, open_sum, sum_bytes, operand, sum_open, sum_close, close_sum, enter, leave}
-use Rattle.sh_grammar.specs.Steps.{Known, limit, Read, silent, gives, behind, here_node, here_after, here_read, op_read, is_copied, copied_read, copy_read, digit_read, literal_read, escaped_read, quoted_run, closed_read, head_read, with_sums, bytes_read, line_read, none_owed, run_step}
+use Rattle.sh_grammar.specs.Steps.{Known, limit, Read, silent, gives, behind, word_place, here_node, here_after, here_read, op_read, is_copied, copied_read, copy_read, digit_read, literal_read, escaped_read, quoted_run, closed_read, head_read, with_sums, bytes_read, line_read, none_owed, run_step}
 use Rattle.sh_grammar.specs.Depths.{op_takes, step_takes}
 use Rattle.span_text.specs.KnownNames.{same_text}
 use Rattle.sh_grammar.proofs.Tools as tools
@@ -26,6 +26,10 @@ use Rattle.sh_grammar.proofs.Lines.{delimiter_fits, bodies_fit}
 -- with k bytes more than these there are at most n
 abbrev Behind : ℕ → ℕ → Read → Type 0
 Behind n k o = tools.If (λ (x : Leaf Node × State). length x.1.bytes + k ≤ n) o
+
+-- what a step gives behind what was read
+on : {A : Type 0} (n : ℕ) (P : A → Type 0) (o : Option A) (f : A → Read) → tools.If P o → ((x : A) → P x → Behind n 1 (f x)) → Behind n 1 (o >>= f)
+on n P o f h k = then P (λ (x : Leaf Node × State). length x.1.bytes + 1 ≤ n) o f h k
 
 some_fits : (n k : ℕ) (x : Leaf Node) (s : State) → length s.bytes + k ≤ n → Behind n k (Some (x, s))
 some_fits n k x s le = le
@@ -129,6 +133,13 @@ expr_fits s n rest (Some e) le = le
 
 -- ---- redirections
 
+-- at most n bytes are left
+abbrev Within : ℕ → Text → Type 0
+Within n bytes = length bytes ≤ n
+
+place_fits : (bytes : Text) → tools.If (Within (length bytes)) (word_place bytes)
+place_fits bytes = let g = gap_fits bytes in chosen (tools.If (Within (length bytes))) (is_token Word bytes) _ _ g tt
+
 op_fits : (s : State) (n : ℕ) (x : Op × Text) → TokenFits n x → Behind n 1 (op_read s x)
 op_fits s n (Less, rest) h = h
 op_fits s n (Great, rest) h = h
@@ -140,8 +151,8 @@ copied_fits s o n [] le = tt
 copied_fits s o n (b ∷ bs) le = let i : length bs + 1 ≤ n = omega arith in chosen (Behind n 1) (is_copied b && not (unit_starts in_word (clear bs))) _ _ i tt
 
 copy_fits : (s : State) (n : ℕ) (x : Op × Text) → TokenFits n x → Behind n 1 (copy_read s x)
-copy_fits s n (LessAnd, rest) h = let g = gap_fits rest in copied_fits s Rattle.sh_grammar.specs.Shape.copy_in n (gap rest) (omega arith)
-copy_fits s n (GreatAnd, rest) h = let g = gap_fits rest in copied_fits s Rattle.sh_grammar.specs.Shape.copy_out n (gap rest) (omega arith)
+copy_fits s n (LessAnd, rest) h = on n (Within (length rest)) (word_place rest) _ (place_fits rest) (λ place i. copied_fits s Rattle.sh_grammar.specs.Shape.copy_in n place (omega arith))
+copy_fits s n (GreatAnd, rest) h = on n (Within (length rest)) (word_place rest) _ (place_fits rest) (λ place i. copied_fits s Rattle.sh_grammar.specs.Shape.copy_out n place (omega arith))
 copy_fits s n x h = tt
 
 node_fits : (s : State) (n : ℕ) (rest : Text) (owed : List Owed) (o : Option Node) → length rest + 1 ≤ n →
@@ -151,11 +162,9 @@ node_fits s n rest owed (Some x) le = le
 
 here_after_fits : (k : Known) (s : State) (strips : Bool) (n : ℕ) (bytes : Text) → length bytes + 1 ≤ n → Behind n 1 (here_after k s strips bytes)
 here_after_fits k s strips n bytes le =
-    let g = gap_fits bytes in
-    then (Rest {A = Text × Bool} (length (gap bytes))) (λ (x : Leaf Node × State). length x.1.bytes + 1 ≤ n) (delimiter_at (gap bytes))
-        (λ d. here_node k s d.0.1 >>= λ x. Some (said x, record s { bytes = d.1; owed = s.owed ++ record { delimiter = d.0.0; literal = d.0.1; strips = strips } ∷ []; named = suc s.named }))
-        (delimiter_fits (gap bytes))
-        (λ d h. node_fits s n d.1 (s.owed ++ record { delimiter = d.0.0; literal = d.0.1; strips = strips } ∷ []) (here_node k s d.0.1) (omega arith))
+    on n (Within (length bytes)) (word_place bytes) _ (place_fits bytes)
+        (λ place i. on n (Rest {A = Text × Bool} (length place)) (delimiter_at place) _ (delimiter_fits place)
+            (λ d h. node_fits s n d.1 (s.owed ++ record { delimiter = d.0.0; literal = d.0.1; strips = strips } ∷ []) (here_node k s d.0.1) (omega arith)))
 
 here_fits : (k : Known) (s : State) (n : ℕ) (x : Op × Text) → TokenFits n x → Behind n 1 (here_read k s x)
 here_fits k s n (DLess, rest) h = here_after_fits k s false n rest h
@@ -172,10 +181,6 @@ line_fits s n rest le =
 abbrev StepFits : Known → Step → State → Type 0
 StepFits k p s = Behind (length s.bytes) (one_if (step_takes p)) (run_step k p s)
 
--- what a step gives behind what was read
-on : {A : Type 0} (n : ℕ) (P : A → Type 0) (o : Option A) (f : A → Read) → tools.If P o → ((x : A) → P x → Behind n 1 (f x)) → Behind n 1 (o >>= f)
-on n P o f h k = then P (λ (x : Leaf Node × State). length x.1.bytes + 1 ≤ n) o f h k
-
 fits : (k : Known) (p : Step) (s : State) → StepFits k p s
 unfolding run_step
 fits k (op o) s = chosen_by (Behind (length s.bytes) (one_if (op_takes o))) (is_token o s.bytes) _ _ (λ e. found_fits o s.bytes e) (λ e. tt)
@@ -189,7 +194,7 @@ fits k descriptor s = digit_fits s (length s.bytes) (gap s.bytes) (gap_fits s.by
 fits k file_op s = op_fits s (length s.bytes) (token s.bytes) (token_fits s.bytes)
 fits k here s = here_fits k s (length s.bytes) (token s.bytes) (token_fits s.bytes)
 fits k copy s = copy_fits s (length s.bytes) (token s.bytes) (token_fits s.bytes)
-fits k to_word s = let g = gap_fits s.bytes in chosen (Behind (length s.bytes) 0) (unit_starts in_word (gap s.bytes)) _ _ (some_fits (length s.bytes) 0 quiet (move s (gap s.bytes)) (omega arith)) tt
+fits k to_word s = then (Within (length s.bytes)) (λ (x : Leaf Node × State). length x.1.bytes + 0 ≤ length s.bytes) (word_place s.bytes) (λ place. silent s place) (place_fits s.bytes) (λ place h. omega arith)
 fits k tilde s = let c = clear_fits s.bytes in on (length s.bytes) (Left (length (clear s.bytes))) (tilde_at (clear s.bytes)) _ (tilde_fits (clear s.bytes)) (λ rest h. omega arith)
 fits k (literal c) s = let g = clear_fits s.bytes in let l = literal_fits c (clear s.bytes) in literal_left s (length s.bytes) (literal_run c (clear s.bytes)) (omega arith)
 fits k (escaped c) s = on (length s.bytes) (Left (length s.bytes)) (behind 92 (clear s.bytes)) _ (behind_clear 92 s.bytes) (λ rest h. escaped_fits c s (length s.bytes) rest (omega arith))
