@@ -9,3 +9,4 @@ pub mod Ends
 pub mod Known
 pub mod Pieces
 pub mod Stuck
+pub mod Spelled

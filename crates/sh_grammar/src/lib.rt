@@ -4,3 +4,7 @@
 //! over the bytes and tokens of `Bytes`, `Tokens`, `Expansions` and `Bodies`; `Acts` (what each rule makes of what was
 //! read); and `Spelling`, which states the relation and the place of a syntax error.
 #![tactic(auto)]
+
+mod laws;
+
+pub use laws::{one_place, one_script};
