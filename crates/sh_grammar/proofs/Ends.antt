@@ -1,10 +1,10 @@
 -- The language of sh ends, whatever its here-documents are.
-use Rattle.std.proofs.Common.{◌≡◌, ℕ, zero, suc, Bool, true, List, refl}
+use Rattle.std.proofs.Common.{◌≡◌, ℕ, zero, suc, true, List, refl}
 use Rattle.std.specs.Prelude.{nat_le}
 use Rattle.text_grammar.specs.Ranks.{takes, shallow, small}
 use Rattle.text_grammar.specs.Language.{Ends}
 use Rattle.sh_grammar.specs.Bytes.{Text}
-use Rattle.sh_grammar.specs.Table.{Step, Rule, piece, line_piece, complete, complete_more, list, maybe_list, list_more, lines, chain, link, and_link, or_link, pipeline, bang, stage, command, compound_command, compound, other_compound, group, subshell, if_command, if_branch, elif_branch, else_part, while_loop, until_loop, do_body, for_loop, for_words, for_in, case_command, case_in, case_item, pattern_more, item_end, function_command, simple_command, prefixed, called, suffix, prefix_item, suffix_item, assign, redirect, target, file, word, value, word_parts, more_parts, pattern, part, double_quotes, expansion, braces, fill, trim, subst, sum, sum_part, sum_group, body_parts, body}
+use Rattle.sh_grammar.specs.Table.{Rule, piece, line_piece, complete, complete_more, list, maybe_list, list_more, lines, chain, link, and_link, or_link, pipeline, bang, stage, command, compound_command, compound, other_compound, group, subshell, if_command, if_branch, elif_branch, else_part, while_loop, until_loop, do_body, for_loop, for_words, for_in, case_command, case_in, case_item, pattern_more, item_end, function_command, simple_command, prefixed, called, suffix, prefix_item, suffix_item, assign, redirect, target, file, word, value, word_parts, more_parts, pattern, part, double_quotes, expansion, braces, fill, trim, subst, sum, sum_part, sum_group, body_parts, body}
 use Rattle.sh_grammar.specs.Steps.{Known}
 use Rattle.sh_grammar.specs.Depths.{rule_takes, rank, ranks}
 use Rattle.sh_grammar.specs.Spelling.{knowing, sh, sh_with}

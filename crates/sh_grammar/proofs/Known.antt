@@ -1,17 +1,16 @@
 -- What sh reads with these bodies it reads with none known, with the same states behind.
-use Rattle.std.proofs.Common.{◌≡◌, ℕ, zero, suc, ◌+◌, ◌≤◌, Bool, true, false, List, [], ◌∷◌, ◌++◌, length, Option, Some, None, refl, sym, ap, ◌∙◌, arith}
+use Rattle.std.proofs.Common.{◌≡◌, ℕ, zero, suc, Bool, true, false, List, [], ◌∷◌, ◌++◌, Option, Some, None, refl, ap}
 use Rattle.text_grammar.specs.Grammar.{Leaf, said, rule}
 use Rattle.text_grammar.specs.Values.{vals}
-use Rattle.text_grammar.specs.Language.{Ends}
 use Rattle.text_grammar.specs.Later.{Allows, Later}
 use Rattle.sh_grammar.specs.Shape.{Parts}
-use Rattle.sh_grammar.specs.Bytes.{Text, gap}
+use Rattle.sh_grammar.specs.Bytes.{Text}
 use Rattle.sh_grammar.specs.Tokens.{Op, DLess, DLessDash, token}
 use Rattle.sh_grammar.specs.Expansions.{◌>>=◌}
-use Rattle.sh_grammar.specs.Bodies.{Owed, delimiter_at}
+use Rattle.sh_grammar.specs.Bodies.{delimiter_at}
 use Rattle.sh_grammar.specs.State.{State, start_at, Node, word_in}
 use Rattle.sh_grammar.specs.Table.{body_parts, Step, op, key, line, ends, name, assign_name, descriptor, file_op, here, copy, to_word, tilde, literal, escaped, exact, quote, dollar, closed, open_head, open_subst, close_brace, open_sum, sum_bytes, operand, sum_open, sum_close, close_sum, enter, leave}
-use Rattle.sh_grammar.specs.Steps.{Known, Read, word_place, here_node, here_after, here_read, run_step}
+use Rattle.sh_grammar.specs.Steps.{Known, Read, word_place, here_node, here_read, run_step}
 use Rattle.sh_grammar.specs.Spelling.{knowing, no_parts, sh, levels, sh_with}
 use Rattle.sh_grammar.proofs.Ends.{ends_with}
 

@@ -1,5 +1,5 @@
 -- What is left behind delimiters of here-documents and behind their bodies.
-use Rattle.std.proofs.Common.{◌≡◌, ℕ, zero, suc, ◌+◌, ◌≤◌, Bool, true, false, cond, List, [], ◌∷◌, length, Option, Some, None, refl, arith}
+use Rattle.std.proofs.Common.{ℕ, zero, suc, ◌≤◌, Bool, true, false, cond, List, [], ◌∷◌, length, Option, Some, None, arith}
 use Rattle.std.specs.Prelude.{◌||◌, ◌&&◌, not, ◌==◌}
 use Rattle.sh_grammar.specs.Bytes.{Text, is_join, in_word, in_double, is_plain, is_escaped, unit_starts}
 use Rattle.sh_grammar.specs.Expansions.{◌>>=◌}
@@ -123,7 +123,7 @@ bytes_fit o p b bs further =
     chosen P (b == 0) _ _ tt
     (chosen P (not o.literal && is_join b bs) _ _ (body_less n j (further (join_of p)))
     (chosen P (o.strips && is_start p && b == 9) _ _ (body_less n k (further p))
-        (byte_fits (suc n) b q (body_less n q (further (behind_byte o.literal b))))))
+    (byte_fits (suc n) b q (body_less n q (further (behind_byte o.literal b))))))
 
 body_from_fits : (o : Owed) (p : Place) (bytes : Text) → Body (length bytes) (body_from o p bytes)
 unfolding body_from
@@ -152,4 +152,4 @@ bodies_fit [] bytes = omega arith
 bodies_fit (o ∷ os) bytes =
     let n = length bytes in
     then (Rest {A = Text} n) (Rest {A = List Text} n) (body_at o bytes) (λ x. bodies_at os x.1 >>= λ y. Some (x.0 ∷ y.0, y.1)) (body_fits o bytes)
-        (λ x h. then (Rest {A = List Text} (length x.1)) (Rest {A = List Text} n) (bodies_at os x.1) (λ y. Some (x.0 ∷ y.0, y.1)) (bodies_fit os x.1) (λ y j. omega arith))
+    (λ x h. then (Rest {A = List Text} (length x.1)) (Rest {A = List Text} n) (bodies_at os x.1) (λ y. Some (x.0 ∷ y.0, y.1)) (bodies_fit os x.1) (λ y j. omega arith))

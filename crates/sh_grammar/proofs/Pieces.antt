@@ -1,18 +1,18 @@
 -- Pieces of a text and its lines are found by reading twice.
-use Rattle.std.proofs.Common.{◌≡◌, ℕ, zero, suc, ◌+◌, ◌-◌, ◌≤◌, ◌<◌, Bool, true, Option, List, [], ◌∷◌, length, refl, sym, ap, subst, arith}
+use Rattle.std.proofs.Common.{◌≡◌, ℕ, zero, suc, ◌+◌, ◌-◌, ◌≤◌, ◌<◌, true, Option, List, [], ◌∷◌, length, refl, ap, arith}
 use Rattle.text_grammar.specs.Grammar.{rule}
 use Rattle.text_grammar.specs.Ranks.{takes}
 use Rattle.text_grammar.specs.Derivations.{Tree}
-use Rattle.text_grammar.specs.Place.{FrontAt, IsPlace, Reader, IsPiece, front}
-use Rattle.text_grammar.specs.Later.{PieceWith, next_with}
+use Rattle.text_grammar.specs.Place.{FrontAt, Reader, IsPiece, front}
+use Rattle.text_grammar.specs.Later.{next_with}
 use Rattle.text_grammar.proofs.Bound.{rule_is_shallow}
 use Rattle.text_grammar.proofs.Place as places
-use Rattle.text_grammar.proofs.Pieces.{reads_pieces_with, one_place_with, front_place_with}
+use Rattle.text_grammar.proofs.Pieces.{reads_pieces_with, one_place_with}
 use Rattle.sh_grammar.specs.Bytes.{Text, idle}
 use Rattle.sh_grammar.specs.State.{State, start_at, fresh, Node}
 use Rattle.sh_grammar.specs.Table.{Test, Rule, piece, line_piece}
-use Rattle.sh_grammar.specs.Depths.{rule_takes, ranks}
-use Rattle.sh_grammar.specs.Spelling.{Lang, sh, levels, sh_with, PieceAt, LineAt, IsErrorAt}
+use Rattle.sh_grammar.specs.Depths.{rule_takes}
+use Rattle.sh_grammar.specs.Spelling.{sh, levels, sh_with, PieceAt, LineAt, IsErrorAt}
 use Rattle.sh_grammar.proofs.Lengths.{idle_fits}
 use Rattle.sh_grammar.proofs.Ends.{ends_with}
 use Rattle.sh_grammar.proofs.Known.{later}

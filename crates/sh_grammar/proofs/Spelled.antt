@@ -1,5 +1,5 @@
 -- A text spells at most one script.
-use Rattle.std.proofs.Common.{◌≡◌, ℕ, List, [], ◌∷◌, refl, sym, ap, subst, ◌∙◌}
+use Rattle.std.proofs.Common.{◌≡◌, List, [], ◌∷◌, refl, sym, ap, subst, ◌∙◌}
 use Rattle.text_grammar.specs.Grammar.{rule}
 use Rattle.text_grammar.specs.Derivations.{Tree, At}
 use Rattle.text_grammar.specs.Place.{FrontAt}
@@ -8,7 +8,7 @@ use Rattle.sh_grammar.specs.Shape.{Script}
 use Rattle.sh_grammar.specs.Bytes.{Text, gap}
 use Rattle.sh_grammar.specs.State.{State, start_at, fresh, Node, chains_in}
 use Rattle.sh_grammar.specs.Table.{Rule, piece}
-use Rattle.sh_grammar.specs.Spelling.{Lang, sh, levels, sh_with, PieceAt, chains_of, Reads}
+use Rattle.sh_grammar.specs.Spelling.{Lang, levels, sh_with, PieceAt, chains_of, Reads}
 use Rattle.sh_grammar.proofs.Known.{known_in, sh_knows, later}
 use Rattle.sh_grammar.proofs.Stuck.{no_piece}
 

@@ -1,18 +1,18 @@
 -- A step leaves no more bytes than there were, and fewer where it is said to take one.
-use Rattle.std.proofs.Common.{◌≡◌, ℕ, zero, suc, ◌+◌, ◌-◌, ◌≤◌, Bool, true, false, cond, List, [], ◌∷◌, ◌++◌, length, Option, Some, None, refl, arith}
-use Rattle.std.specs.Prelude.{◌||◌, ◌&&◌, not, ◌==◌, nat_lt}
+use Rattle.std.proofs.Common.{◌≡◌, ℕ, suc, ◌+◌, ◌≤◌, Bool, true, false, List, [], ◌∷◌, ◌++◌, length, Option, Some, None, arith}
+use Rattle.std.specs.Prelude.{◌&&◌, not, ◌==◌, nat_lt}
 use Rattle.text_grammar.specs.Grammar.{Leaf, quiet, said}
 use Rattle.text_grammar.specs.Language.{one_if}
 use Rattle.sh_grammar.specs.Shape.{Parts, Param, RedirectOp}
 use Rattle.sh_grammar.specs.Bytes.{Text, Context, clear, gap, in_word, literal_run, unit_starts, is_escaped}
-use Rattle.sh_grammar.specs.Tokens.{Op, End, Newline, Semi, SemiSemi, AndIf, OrIf, Pipe, Open, Close, Less, Great, DGreat, DLess, DLessDash, LessAnd, GreatAnd, Io, Word, Other, Key, If, Then, Elif, Else, Fi, For, In, Until, While, Do, Done, Case, Esac, OpenBrace, CloseBrace, Bang, token, is_token, key_text, bare, is_whole, is_key, name_at, assign_at, tilde_at}
+use Rattle.sh_grammar.specs.Tokens.{Op, End, Newline, Less, Great, DGreat, DLess, DLessDash, LessAnd, GreatAnd, Word, Key, If, Then, Elif, Else, Fi, For, In, Until, While, Do, Done, Case, Esac, OpenBrace, CloseBrace, Bang, token, is_token, key_text, bare, is_whole, is_key, name_at, assign_at, tilde_at}
 use Rattle.sh_grammar.specs.Expansions.{◌>>=◌, Head, closed as closed_head, filling, trimming, dollar_param, dollar_head, dollar_sum, behind_two}
 use Rattle.sh_grammar.specs.Bodies.{Owed, delimiter_at, bodies_at}
 use Rattle.sh_grammar.specs.State.{State, move, Node, text_node, expr_node}
 use Rattle.span_text.specs.declared.expr.Expr.{Expr}
-use Rattle.sh_grammar.specs.Sums.{is_sum_byte, sum_run, with_bytes, with_operand, no_sum, innermost, without_innermost}
+use Rattle.sh_grammar.specs.Sums.{is_sum_byte, sum_run, innermost, without_innermost}
 use Rattle.sh_grammar.specs.Table.{Step, op, key, line, ends, name, assign_name, descriptor, file_op, here, copy, to_word, tilde, literal, escaped, exact, quote, dollar, closed, open_head, open_subst, close_brace, open_sum, sum_bytes, operand, sum_open, sum_close, close_sum, enter, leave}
-use Rattle.sh_grammar.specs.Steps.{Known, limit, Read, silent, gives, behind, word_place, here_node, here_after, here_read, op_read, is_copied, copied_read, copy_read, digit_read, literal_read, escaped_read, quoted_run, closed_read, head_read, with_sums, bytes_read, line_read, none_owed, run_step}
+use Rattle.sh_grammar.specs.Steps.{Known, limit, Read, silent, behind, word_place, here_node, here_after, here_read, op_read, is_copied, copied_read, copy_read, digit_read, literal_read, escaped_read, quoted_run, closed_read, head_read, bytes_read, line_read, none_owed, run_step}
 use Rattle.sh_grammar.specs.Depths.{op_takes, step_takes}
 use Rattle.span_text.specs.KnownNames.{same_text}
 use Rattle.sh_grammar.proofs.Tools as tools
@@ -96,7 +96,7 @@ quoted_fits (b ∷ bs) =
     let n = length bs in let P = tools.If (Rest {A = Text} (suc n)) in let i : n ≤ suc n = omega arith in
     chosen P (b == 39) _ _ i
     (chosen P (b == 0) _ _ tt
-        (then (Rest {A = Text} n) (Rest {A = Text} (suc n)) (quoted_run bs) (λ x. Some (b ∷ x.0, x.1)) (quoted_fits bs) (λ x h. omega arith)))
+    (then (Rest {A = Text} n) (Rest {A = Text} (suc n)) (quoted_run bs) (λ x. Some (b ∷ x.0, x.1)) (quoted_fits bs) (λ x h. omega arith)))
 
 closed_fits : (s : State) (n : ℕ) (x : Head × Text) → length x.1 + 1 ≤ n → Behind n 1 (closed_read s x)
 closed_fits s n (closed_head p o, rest) le = le
@@ -163,8 +163,8 @@ node_fits s n rest owed (Some x) le = le
 here_after_fits : (k : Known) (s : State) (strips : Bool) (n : ℕ) (bytes : Text) → length bytes + 1 ≤ n → Behind n 1 (here_after k s strips bytes)
 here_after_fits k s strips n bytes le =
     on n (Within (length bytes)) (word_place bytes) _ (place_fits bytes)
-        (λ place i. on n (Rest {A = Text × Bool} (length place)) (delimiter_at place) _ (delimiter_fits place)
-            (λ d h. node_fits s n d.1 (s.owed ++ record { delimiter = d.0.0; literal = d.0.1; strips = strips } ∷ []) (here_node k s d.0.1) (omega arith)))
+    (λ place i. on n (Rest {A = Text × Bool} (length place)) (delimiter_at place) _ (delimiter_fits place)
+    (λ d h. node_fits s n d.1 (s.owed ++ record { delimiter = d.0.0; literal = d.0.1; strips = strips } ∷ []) (here_node k s d.0.1) (omega arith)))
 
 here_fits : (k : Known) (s : State) (n : ℕ) (x : Op × Text) → TokenFits n x → Behind n 1 (here_read k s x)
 here_fits k s n (DLess, rest) h = here_after_fits k s false n rest h
@@ -174,7 +174,7 @@ here_fits k s n x h = tt
 line_fits : (s : State) (n : ℕ) (rest : Text) → length rest + 1 ≤ n → Behind n 1 (line_read s rest)
 line_fits s n rest le =
     then (Rest {A = List Text} (length rest)) (λ (x : Leaf Node × State). length x.1.bytes + 1 ≤ n) (bodies_at s.owed rest)
-        (λ x. Some (quiet, record s { bytes = x.1; owed = []; found = s.found ++ x.0 })) (bodies_fit s.owed rest) (λ x h. omega arith)
+    (λ x. Some (quiet, record s { bytes = x.1; owed = []; found = s.found ++ x.0 })) (bodies_fit s.owed rest) (λ x h. omega arith)
 
 -- ---- steps
 
@@ -200,12 +200,12 @@ fits k (literal c) s = let g = clear_fits s.bytes in let l = literal_fits c (cle
 fits k (escaped c) s = on (length s.bytes) (Left (length s.bytes)) (behind 92 (clear s.bytes)) _ (behind_clear 92 s.bytes) (λ rest h. escaped_fits c s (length s.bytes) rest (omega arith))
 fits k exact s =
     on (length s.bytes) (Left (length s.bytes)) (behind 39 (clear s.bytes)) _ (behind_clear 39 s.bytes)
-        (λ rest h. on (length s.bytes) (Rest {A = Text} (length rest)) (quoted_run rest) _ (quoted_fits rest) (λ x j. omega arith))
+    (λ rest h. on (length s.bytes) (Rest {A = Text} (length rest)) (quoted_run rest) _ (quoted_fits rest) (λ x j. omega arith))
 fits k quote s = on (length s.bytes) (Left (length s.bytes)) (behind 34 (clear s.bytes)) _ (behind_clear 34 s.bytes) (λ rest h. h)
 fits k dollar s = on (length s.bytes) (RestLeft {A = Param} (length s.bytes)) (dollar_param s.bytes) _ (dollar_param_fits s.bytes) (λ x h. h)
 fits k closed s =
     chosen (Behind (length s.bytes) 1) (nat_lt s.depth limit) _ _
-        (on (length s.bytes) (RestLeft {A = Head} (length s.bytes)) (dollar_head s.bytes) (λ x. closed_read s x) (dollar_head_fits s.bytes) (λ x h. closed_fits s (length s.bytes) x h)) tt
+    (on (length s.bytes) (RestLeft {A = Head} (length s.bytes)) (dollar_head s.bytes) (λ x. closed_read s x) (dollar_head_fits s.bytes) (λ x h. closed_fits s (length s.bytes) x h)) tt
 fits k open_head s = on (length s.bytes) (RestLeft {A = Head} (length s.bytes)) (dollar_head s.bytes) (λ x. head_read s x) (dollar_head_fits s.bytes) (λ x h. open_fits s (length s.bytes) x h)
 fits k open_subst s = on (length s.bytes) (Left (length s.bytes)) (behind_two 36 40 s.bytes) _ (behind_two_fits 36 40 s.bytes) (λ rest h. h)
 fits k close_brace s = on (length s.bytes) (Left (length s.bytes)) (behind 125 (clear s.bytes)) _ (behind_clear 125 s.bytes) (λ rest h. h)

@@ -1,13 +1,12 @@
 -- No piece stands before the end of a text.
-use Rattle.std.proofs.Common.{◌≡◌, ℕ, Bool, true, false, List, [], refl, sym, subst, ◌∙◌}
-use Rattle.std.specs.Prelude.{◌||◌, ◌&&◌, not, ◌==◌}
-use Rattle.text_grammar.specs.Grammar.{Grammar, pass, fail, step, seq, choose, star, rule}
+use Rattle.std.proofs.Common.{◌≡◌, true, false, [], refl, sym, subst, ◌∙◌}
+use Rattle.text_grammar.specs.Grammar.{Grammar, pass, fail, seq, choose, rule}
 use Rattle.text_grammar.specs.Language.{Language}
 use Rattle.text_grammar.specs.Derivations.{Tree, empty, leaf, both, first, second, more, node, At}
-use Rattle.sh_grammar.specs.Bytes.{Text, gap, literal_run, unit_starts}
+use Rattle.sh_grammar.specs.Bytes.{gap, literal_run, unit_starts}
 use Rattle.sh_grammar.specs.Tokens.{Newline, Bang, front, token, is_token, code, key_text, is_key, here_next, copy_next, redirect_next, name_next, simple_next, compound_next, function_next}
 use Rattle.sh_grammar.specs.State.{State, Node}
-use Rattle.sh_grammar.specs.Table.{Rule, Test, next, key_next, compound_begins, function_begins, simple_begins, piece, complete, chain, pipeline, command, simple_command}
+use Rattle.sh_grammar.specs.Table.{Rule, next, key_next, compound_begins, function_begins, simple_begins, piece, complete, chain, pipeline, command, simple_command}
 use Rattle.sh_grammar.specs.Steps.{Known, holds}
 use Rattle.sh_grammar.specs.Spelling.{knowing}
 
@@ -76,11 +75,11 @@ pub no_piece : (k : Known) (s : State) → gap s.bytes ≡ [] → (t : Tree Rule
 no_piece k s e =
     let l = knowing k in
     no_rule l piece s (no_second l (next Newline) _ _ s (no_newline s e)
-        (no_seq l (rule complete) _ s (no_rule l complete s
-            (no_seq l (rule chain) _ s (no_rule l chain s
-                (no_seq l (rule pipeline) _ s (no_rule l pipeline s
-                    (no_behind l (key_next Bang) _ _ s (no_bang s e)
-                        (no_seq l (rule command) _ s (no_rule l command s
-                            (no_second l compound_begins _ _ s (no_compound s e)
-                                (no_second l function_begins _ _ s (no_function s e)
-                                    (no_rule l simple_command s (no_second l simple_begins _ _ s (no_simple s e) (no_fail l s)))))))))))))))
+    (no_seq l (rule complete) _ s (no_rule l complete s
+    (no_seq l (rule chain) _ s (no_rule l chain s
+    (no_seq l (rule pipeline) _ s (no_rule l pipeline s
+    (no_behind l (key_next Bang) _ _ s (no_bang s e)
+    (no_seq l (rule command) _ s (no_rule l command s
+    (no_second l compound_begins _ _ s (no_compound s e)
+    (no_second l function_begins _ _ s (no_function s e)
+    (no_rule l simple_command s (no_second l simple_begins _ _ s (no_simple s e) (no_fail l s)))))))))))))))
