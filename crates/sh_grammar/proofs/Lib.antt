@@ -10,3 +10,4 @@ pub mod Known
 pub mod Pieces
 pub mod Stuck
 pub mod Spelled
+pub mod Whole
