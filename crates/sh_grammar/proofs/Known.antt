@@ -89,7 +89,7 @@ over : (k : Known) (f : ℕ → Text → Option Parts) → Allows (knowing k) (k
 over k f = record { step = λ p s e x i. step_over k f p s e x i; test = λ p s. refl; body = λ r. refl }
 
 -- how a body is read, where bodies in it are at most n deep
-abbrev expand_in : ℕ → ℕ → Text → Option Parts
+abbrev pub expand_in : ℕ → ℕ → Text → Option Parts
 expand_in n depth text = vals (sh n []) (rule body_parts) (start_at depth text) >>= λ x. vals (sh n x.1.found) (rule body_parts) (start_at depth text) >>= λ y. Some (word_in y.0)
 
 -- what is known, where bodies are at most n deep

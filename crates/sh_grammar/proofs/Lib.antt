@@ -11,3 +11,4 @@ pub mod Pieces
 pub mod Stuck
 pub mod Spelled
 pub mod Whole
+pub mod Stops
