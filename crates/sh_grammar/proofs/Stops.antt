@@ -1,17 +1,16 @@
 -- Where a text spells no script, its pieces stop where its lines do.
-use Rattle.std.proofs.Common.{◌≡◌, ℕ, zero, suc, ◌+◌, ◌≤◌, ◌<◌, Bool, true, false, cond, List, [], ◌∷◌, ◌++◌, length, Option, Some, None, refl, sym, ap, subst, ◌∙◌, ◌⊎◌, inl, inr, arith}
-use Rattle.text_grammar.specs.Grammar.{Grammar, step, seq, choose, star, rule, Leaf, quiet}
-use Rattle.text_grammar.specs.Derivations.{Tree, empty, leaf, both, first, second, more, node, At}
-use Rattle.text_grammar.specs.Place.{front}
+use Rattle.std.proofs.Common.{◌≡◌, ℕ, zero, suc, ◌+◌, ◌<◌, Bool, true, false, cond, List, [], ◌++◌, length, Option, Some, None, refl, sym, ap, subst, ◌∙◌, ◌⊎◌, inl, inr, arith}
+use Rattle.text_grammar.specs.Grammar.{rule, Leaf, quiet}
+use Rattle.text_grammar.specs.Derivations.{Tree, leaf, both, first, second, node, At}
 use Rattle.text_grammar.proofs.Place as places
 use Rattle.text_grammar.proofs.Tools.{some_is}
 use Rattle.sh_grammar.specs.Bytes.{Text, gap, idle}
 use Rattle.sh_grammar.specs.Tokens.{Newline}
 use Rattle.sh_grammar.specs.Expansions.{◌>>=◌}
 use Rattle.sh_grammar.specs.State.{State, start_at, move, fresh, Node}
-use Rattle.sh_grammar.specs.Table.{Step, Test, Rule, next, line, ends, piece, line_piece}
+use Rattle.sh_grammar.specs.Table.{Rule, next, line, ends, piece, line_piece}
 use Rattle.sh_grammar.specs.Steps.{Known, holds, run_step}
-use Rattle.sh_grammar.specs.Spelling.{Lang, knowing, sh, levels, sh_with, PieceAt, LineAt, IsErrorAt}
+use Rattle.sh_grammar.specs.Spelling.{Lang, knowing, levels, sh_with, PieceAt, LineAt, IsErrorAt}
 use Rattle.sh_grammar.specs.Pieces.{next_piece, next_line, nodes_from, stop_from}
 use Rattle.sh_grammar.proofs.Known.{known_in, sh_knows}
 use Rattle.sh_grammar.proofs.Pieces.{pieces_read, lines_read, next_less, ahead, lines_end, error_at}

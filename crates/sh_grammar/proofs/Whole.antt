@@ -1,23 +1,21 @@
 -- A text spells a script exactly where its pieces read up to its end; else the place of the error is where they stop.
-use Rattle.std.proofs.Common.{◌≡◌, ℕ, zero, suc, ◌+◌, ◌≤◌, ◌<◌, Bool, true, false, cond, List, [], ◌∷◌, ◌++◌, length, Option, Some, None, refl, sym, ap, subst, ◌∙◌, ◌⊎◌, inl, inr, arith}
-use Rattle.text_grammar.specs.Grammar.{Grammar, step, seq, choose, star, rule, Leaf}
-use Rattle.text_grammar.specs.Derivations.{Tree, empty, leaf, both, first, second, more, node, At}
+use Rattle.std.proofs.Common.{◌≡◌, ℕ, zero, suc, ◌<◌, false, cond, List, [], ◌∷◌, ◌++◌, length, Option, Some, None, refl, sym, ap, ◌∙◌, arith}
+use Rattle.text_grammar.specs.Grammar.{rule}
+use Rattle.text_grammar.specs.Derivations.{Tree, empty, leaf, both, first, second, more, node}
 use Rattle.text_grammar.specs.Values.{kids}
-use Rattle.text_grammar.specs.Place.{FrontAt, front}
-use Rattle.text_grammar.specs.Later.{AtWith}
+use Rattle.text_grammar.specs.Place.{FrontAt}
 use Rattle.text_grammar.proofs.Place as places
 use Rattle.text_grammar.proofs.Twice.{vals_twice_sound, vals_twice_complete}
 use Rattle.sh_grammar.specs.Shape.{Script}
-use Rattle.sh_grammar.specs.Bytes.{Text, gap, idle}
-use Rattle.sh_grammar.specs.Tokens.{End, Newline, token, is_token}
+use Rattle.sh_grammar.specs.Bytes.{Text, gap}
 use Rattle.sh_grammar.specs.Expansions.{◌>>=◌}
 use Rattle.sh_grammar.specs.State.{State, start_at, fresh, Node, chains_in}
-use Rattle.sh_grammar.specs.Table.{Step, Test, Rule, next, line, ends, piece, line_piece}
-use Rattle.sh_grammar.specs.Steps.{Known, is_empty, holds, none_owed, run_step}
-use Rattle.sh_grammar.specs.Spelling.{Lang, knowing, sh, levels, sh_with, PieceAt, LineAt, chains_of, Reads, IsErrorAt}
-use Rattle.sh_grammar.specs.Pieces.{next_piece, next_line, nodes_in, nodes_from, stop_from}
+use Rattle.sh_grammar.specs.Table.{Rule, piece}
+use Rattle.sh_grammar.specs.Steps.{Known, is_empty}
+use Rattle.sh_grammar.specs.Spelling.{Lang, knowing, sh, levels, sh_with, PieceAt, chains_of, Reads}
+use Rattle.sh_grammar.specs.Pieces.{next_piece, nodes_in, nodes_from, stop_from}
 use Rattle.sh_grammar.proofs.Known.{known_in, sh_knows, later}
-use Rattle.sh_grammar.proofs.Pieces.{is_piece, pieces_read, lines_read, piece_takes, next_less, ahead, lines_end, error_at}
+use Rattle.sh_grammar.proofs.Pieces.{is_piece, pieces_read, piece_takes, next_less, ahead}
 use Rattle.sh_grammar.proofs.Spelled.{none_at_end}
 
 -- ---- nodes don't hang on what is known

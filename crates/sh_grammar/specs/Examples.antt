@@ -1,26 +1,28 @@
 -- Texts and their scripts, worked out by the table.
-use Rattle.std.specs.Prelude.{◌≡◌, true, false, List, [], ◌∷◌, map, Option, Some, None, refl, codes}
+use Rattle.std.specs.Prelude.{◌≡◌, ℕ, true, false, List, [], ◌∷◌, ◌-◌, length, map, Option, Some, None, refl, codes}
 use Rattle.span_text.specs.Names.{begins_name, continues_name}
-use Rattle.text_grammar.specs.Grammar.{rule}
 use Rattle.text_grammar.specs.Values.{vals}
 use Rattle.text_grammar.specs.Reading.{parse, read}
-use Rattle.text_grammar.specs.Later.{vals_twice, next_with}
+use Rattle.text_grammar.specs.Later.{vals_twice}
+use Rattle.text_grammar.specs.Place.{front_in}
+use Rattle.text_grammar.specs.Place as place
 use Rattle.sh_grammar.specs.Shape.{Script, plain, exact, double, tilde, param, named, digits, as_is, length_of, fill, trim, default, subst, no_part, part, Parts, no_word, word, no_value, value, no_assign, assign, no_redirect, redirect, write, here_expanded, here_literal, Command, command, Kind, simple, subshell, group, cases, walk, branching, branch, no_branch, no_else, function, parameters, listed, loop, copy_in, no_item, item, no_stage, stage, pipeline, no_link, and_link, or_link, chain, no_chain, next_chain}
-use Rattle.sh_grammar.specs.Bytes.{Text, is_literal, clear, comment_end, gap, is_special_param, expands, is_meta, is_active, is_plain, is_escaped, has_single, has_double, fill_context, trim_context, literal_run, begins_unit, unit_starts, name_run, digit_run}
+use Rattle.sh_grammar.specs.Bytes.{Text, is_literal, clear, comment_end, gap, is_special_param, expands, is_meta, is_active, is_plain, is_escaped, has_single, has_double, fill_context, trim_context, literal_run, begins_unit, unit_starts, name_run, digit_run, idle}
 use Rattle.sh_grammar.specs.Tokens.{front, token, is_token, code, semi_at, and_at, pipe_at, here_at, less_at, great_at, key_text, is_key, here_next, copy_next, redirect_next, name_next, simple_next, compound_next, command_next, pipeline_next, name_at, assign_at, assign_next, function_next, tilde_at, tilde_next}
 use Rattle.sh_grammar.specs.Expansions.{◌>>=◌, param_at, long_param_at, head_at, behind_two, dollar_param, dollar_head, dollar_sum, subst_next, sum_next, brace_next, closed_next, filling_next}
 use Rattle.sh_grammar.specs.Bodies.{delimiter_from, delimiter_at, body_from, body_at, bodies_at}
-use Rattle.sh_grammar.specs.State.{State, start_at, fresh, Node, chains_in}
-use Rattle.sh_grammar.specs.Table.{piece}
+use Rattle.sh_grammar.specs.State.{State, start_at, Node, chains_in}
 use Rattle.sh_grammar.specs.Steps.{run_step, holds, quoted_run}
-use Rattle.sh_grammar.specs.Spelling.{sh, sh_with}
+use Rattle.sh_grammar.specs.Spelling.{sh}
+use Rattle.sh_grammar.specs.Sums.{sum_run}
+use Rattle.sh_grammar.specs.Pieces.{next_piece, nodes_in, nodes_from, stop_from}
 
 abbrev seen : Option (List Node × State) → Option (Script × Text)
 seen o = o >>= λ x. Some (chains_in x.0, x.1.bytes)
 
 -- the script of the first piece of a text, and what follows the piece
 abbrev first : Text → Option (Script × Text)
-first text = seen (next_with sh_with (λ (e : State). e.found) [] fresh (rule piece) (start_at 0 text))
+first text = seen (next_piece (start_at 0 text))
 
 abbrev one : Command → Script
 one c = next_chain (chain (pipeline false (stage c no_stage)) no_link) no_chain
@@ -62,7 +64,7 @@ simple_commands =
     (codes "\na", Some (no_chain, codes "a")) ∷ []
 
 simple_commands_read : map (λ r. first r.0) simple_commands ≡ map (λ r. r.1) simple_commands
-unfolding parse read vals vals_twice sh run_step holds quoted_run front token is_token code semi_at and_at pipe_at here_at less_at great_at key_text is_key here_next copy_next redirect_next name_next simple_next compound_next command_next pipeline_next name_at assign_at assign_next function_next tilde_at tilde_next is_literal clear comment_end gap is_special_param expands is_meta is_active is_plain is_escaped has_single has_double fill_context trim_context literal_run begins_unit unit_starts name_run digit_run param_at long_param_at head_at behind_two dollar_param dollar_head dollar_sum subst_next sum_next brace_next closed_next filling_next delimiter_from delimiter_at body_from body_at bodies_at begins_name continues_name
+unfolding parse read vals vals_twice sh run_step holds quoted_run front token is_token code semi_at and_at pipe_at here_at less_at great_at key_text is_key here_next copy_next redirect_next name_next simple_next compound_next command_next pipeline_next name_at assign_at assign_next function_next tilde_at tilde_next is_literal clear comment_end gap is_special_param expands is_meta is_active is_plain is_escaped has_single has_double fill_context trim_context literal_run begins_unit unit_starts name_run digit_run idle param_at long_param_at head_at behind_two dollar_param dollar_head dollar_sum subst_next sum_next brace_next closed_next filling_next delimiter_from delimiter_at body_from body_at bodies_at begins_name continues_name sum_run next_piece
 simple_commands_read = refl
 
 -- here-documents (2.7.4)
@@ -74,7 +76,7 @@ here_documents =
     (codes "a <<E\nx\n", None) ∷ []
 
 here_documents_read : map (λ r. first r.0) here_documents ≡ map (λ r. r.1) here_documents
-unfolding parse read vals vals_twice sh run_step holds quoted_run front token is_token code semi_at and_at pipe_at here_at less_at great_at key_text is_key here_next copy_next redirect_next name_next simple_next compound_next command_next pipeline_next name_at assign_at assign_next function_next tilde_at tilde_next is_literal clear comment_end gap is_special_param expands is_meta is_active is_plain is_escaped has_single has_double fill_context trim_context literal_run begins_unit unit_starts name_run digit_run param_at long_param_at head_at behind_two dollar_param dollar_head dollar_sum subst_next sum_next brace_next closed_next filling_next delimiter_from delimiter_at body_from body_at bodies_at begins_name continues_name
+unfolding parse read vals vals_twice sh run_step holds quoted_run front token is_token code semi_at and_at pipe_at here_at less_at great_at key_text is_key here_next copy_next redirect_next name_next simple_next compound_next command_next pipeline_next name_at assign_at assign_next function_next tilde_at tilde_next is_literal clear comment_end gap is_special_param expands is_meta is_active is_plain is_escaped has_single has_double fill_context trim_context literal_run begins_unit unit_starts name_run digit_run idle param_at long_param_at head_at behind_two dollar_param dollar_head dollar_sum subst_next sum_next brace_next closed_next filling_next delimiter_from delimiter_at body_from body_at bodies_at begins_name continues_name sum_run next_piece
 here_documents_read = refl
 
 -- compound commands and functions (2.9.4, 2.9.5)
@@ -97,7 +99,7 @@ compound_commands =
     (codes "f() a", None) ∷ []
 
 compound_commands_read : map (λ r. first r.0) compound_commands ≡ map (λ r. r.1) compound_commands
-unfolding parse read vals vals_twice sh run_step holds quoted_run front token is_token code semi_at and_at pipe_at here_at less_at great_at key_text is_key here_next copy_next redirect_next name_next simple_next compound_next command_next pipeline_next name_at assign_at assign_next function_next tilde_at tilde_next is_literal clear comment_end gap is_special_param expands is_meta is_active is_plain is_escaped has_single has_double fill_context trim_context literal_run begins_unit unit_starts name_run digit_run param_at long_param_at head_at behind_two dollar_param dollar_head dollar_sum subst_next sum_next brace_next closed_next filling_next delimiter_from delimiter_at body_from body_at bodies_at begins_name continues_name
+unfolding parse read vals vals_twice sh run_step holds quoted_run front token is_token code semi_at and_at pipe_at here_at less_at great_at key_text is_key here_next copy_next redirect_next name_next simple_next compound_next command_next pipeline_next name_at assign_at assign_next function_next tilde_at tilde_next is_literal clear comment_end gap is_special_param expands is_meta is_active is_plain is_escaped has_single has_double fill_context trim_context literal_run begins_unit unit_starts name_run digit_run idle param_at long_param_at head_at behind_two dollar_param dollar_head dollar_sum subst_next sum_next brace_next closed_next filling_next delimiter_from delimiter_at body_from body_at bodies_at begins_name continues_name sum_run next_piece
 compound_commands_read = refl
 
 -- lists and pipelines (2.9.2, 2.9.3)
@@ -113,7 +115,7 @@ lists =
     (codes "a & b", None) ∷ []
 
 lists_read : map (λ r. first r.0) lists ≡ map (λ r. r.1) lists
-unfolding parse read vals vals_twice sh run_step holds quoted_run front token is_token code semi_at and_at pipe_at here_at less_at great_at key_text is_key here_next copy_next redirect_next name_next simple_next compound_next command_next pipeline_next name_at assign_at assign_next function_next tilde_at tilde_next is_literal clear comment_end gap is_special_param expands is_meta is_active is_plain is_escaped has_single has_double fill_context trim_context literal_run begins_unit unit_starts name_run digit_run param_at long_param_at head_at behind_two dollar_param dollar_head dollar_sum subst_next sum_next brace_next closed_next filling_next delimiter_from delimiter_at body_from body_at bodies_at begins_name continues_name
+unfolding parse read vals vals_twice sh run_step holds quoted_run front token is_token code semi_at and_at pipe_at here_at less_at great_at key_text is_key here_next copy_next redirect_next name_next simple_next compound_next command_next pipeline_next name_at assign_at assign_next function_next tilde_at tilde_next is_literal clear comment_end gap is_special_param expands is_meta is_active is_plain is_escaped has_single has_double fill_context trim_context literal_run begins_unit unit_starts name_run digit_run idle param_at long_param_at head_at behind_two dollar_param dollar_head dollar_sum subst_next sum_next brace_next closed_next filling_next delimiter_from delimiter_at body_from body_at bodies_at begins_name continues_name sum_run next_piece
 lists_read = refl
 
 -- words (2.2, 2.6)
@@ -131,9 +133,44 @@ parts =
     (codes "\"$(a \"b\")\"", says (part (double (part (subst (does (simple no_assign (word (w (codes "a")) (word (part (double (w (codes "b"))) no_part) no_word))))) no_part)) no_part)) ∷
     (codes "`a`", None) ∷
     (codes "$$", None) ∷
+    (codes "$((1)", None) ∷
     (codes "\"a", None) ∷
     (codes "'a", None) ∷ []
 
 parts_read : map (λ r. first r.0) parts ≡ map (λ r. r.1) parts
-unfolding parse read vals vals_twice sh run_step holds quoted_run front token is_token code semi_at and_at pipe_at here_at less_at great_at key_text is_key here_next copy_next redirect_next name_next simple_next compound_next command_next pipeline_next name_at assign_at assign_next function_next tilde_at tilde_next is_literal clear comment_end gap is_special_param expands is_meta is_active is_plain is_escaped has_single has_double fill_context trim_context literal_run begins_unit unit_starts name_run digit_run param_at long_param_at head_at behind_two dollar_param dollar_head dollar_sum subst_next sum_next brace_next closed_next filling_next delimiter_from delimiter_at body_from body_at bodies_at begins_name continues_name
+unfolding parse read vals vals_twice sh run_step holds quoted_run front token is_token code semi_at and_at pipe_at here_at less_at great_at key_text is_key here_next copy_next redirect_next name_next simple_next compound_next command_next pipeline_next name_at assign_at assign_next function_next tilde_at tilde_next is_literal clear comment_end gap is_special_param expands is_meta is_active is_plain is_escaped has_single has_double fill_context trim_context literal_run begins_unit unit_starts name_run digit_run idle param_at long_param_at head_at behind_two dollar_param dollar_head dollar_sum subst_next sum_next brace_next closed_next filling_next delimiter_from delimiter_at body_from body_at bodies_at begins_name continues_name sum_run next_piece
 parts_read = refl
+
+-- ---- whole texts
+
+-- the script of a text
+abbrev script_of : Text → Option Script
+script_of text = nodes_from (start_at 0 text) >>= λ ns. Some (chains_in ns)
+
+abbrev whole_texts : List (Text × Option Script)
+whole_texts =
+    (codes "a\n# b\nc;d", Some (next_chain (chain (pipeline false (stage (command (calls (codes "a")) no_redirect) no_stage)) no_link) (next_chain (chain (pipeline false (stage (command (calls (codes "c")) no_redirect) no_stage)) no_link) (next_chain (chain (pipeline false (stage (command (calls (codes "d")) no_redirect) no_stage)) no_link) no_chain)))) ∷
+    (codes " \n", Some no_chain) ∷
+    (codes "", Some no_chain) ∷
+    (codes "a &", None) ∷ []
+
+whole_texts_read : map (λ r. script_of r.0) whole_texts ≡ map (λ r. r.1) whole_texts
+unfolding parse read vals vals_twice sh run_step holds quoted_run front token is_token code semi_at and_at pipe_at here_at less_at great_at key_text is_key here_next copy_next redirect_next name_next simple_next compound_next command_next pipeline_next name_at assign_at assign_next function_next tilde_at tilde_next is_literal clear comment_end gap is_special_param expands is_meta is_active is_plain is_escaped has_single has_double fill_context trim_context literal_run begins_unit unit_starts name_run digit_run idle param_at long_param_at head_at behind_two dollar_param dollar_head dollar_sum subst_next sum_next brace_next closed_next filling_next delimiter_from delimiter_at body_from body_at bodies_at begins_name continues_name sum_run next_piece nodes_in nodes_from stop_from front_in place.front
+whole_texts_read = refl
+
+-- where the pieces of a text stop
+abbrev place_of : Text → ℕ
+place_of text = length text - length (idle (stop_from (start_at 0 text)).bytes)
+
+-- texts that spell no script, and their places
+abbrev wrong_texts : List (Text × ℕ)
+wrong_texts =
+    (codes ")", 0) ∷
+    (codes "a\n (b", 3) ∷
+    (codes "a\n\n# b\n\\\n)", 9) ∷
+    (codes "a\nb; )\n", 2) ∷
+    (codes "a <<E\nx\n", 0) ∷ []
+
+wrong_texts_stop : map {B = Option Script × ℕ} (λ r. (script_of r.0, place_of r.0)) wrong_texts ≡ map {B = Option Script × ℕ} (λ r. (None, r.1)) wrong_texts
+unfolding parse read vals vals_twice sh run_step holds quoted_run front token is_token code semi_at and_at pipe_at here_at less_at great_at key_text is_key here_next copy_next redirect_next name_next simple_next compound_next command_next pipeline_next name_at assign_at assign_next function_next tilde_at tilde_next is_literal clear comment_end gap is_special_param expands is_meta is_active is_plain is_escaped has_single has_double fill_context trim_context literal_run begins_unit unit_starts name_run digit_run idle param_at long_param_at head_at behind_two dollar_param dollar_head dollar_sum subst_next sum_next brace_next closed_next filling_next delimiter_from delimiter_at body_from body_at bodies_at begins_name continues_name sum_run next_piece nodes_in nodes_from stop_from front_in place.front
+wrong_texts_stop = refl
