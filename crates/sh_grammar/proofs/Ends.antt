@@ -1,10 +1,10 @@
 -- The language of sh ends, whatever its here-documents are.
-use Rattle.std.proofs.Common.{◌≡◌, ℕ, zero, suc, Bool, true, List, refl}
+use Rattle.std.proofs.Common.{◌≡◌, ℕ, zero, suc, true, List, refl}
 use Rattle.std.specs.Prelude.{nat_le}
 use Rattle.text_grammar.specs.Ranks.{takes, shallow, small}
 use Rattle.text_grammar.specs.Language.{Ends}
 use Rattle.sh_grammar.specs.Bytes.{Text}
-use Rattle.sh_grammar.specs.Table.{Step, Rule, piece, line_piece, complete, complete_more, list, maybe_list, list_more, lines, chain, link, and_link, or_link, pipeline, bang, stage, command, compound_command, compound, other_compound, group, subshell, if_command, if_branch, elif_branch, else_part, while_loop, until_loop, do_body, for_loop, for_words, for_in, case_command, case_in, case_item, pattern_more, item_end, function_command, simple_command, prefixed, called, suffix, prefix_item, suffix_item, assign, redirect, target, file, word, value, word_parts, more_parts, pattern, part, double_quotes, expansion, braces, fill, trim, subst, body_parts, body}
+use Rattle.sh_grammar.specs.Table.{Rule, piece, line_piece, complete, complete_more, list, maybe_list, list_more, lines, chain, link, and_link, or_link, pipeline, bang, stage, command, compound_command, compound, other_compound, group, subshell, if_command, if_branch, elif_branch, else_part, while_loop, until_loop, do_body, for_loop, for_words, for_in, case_command, case_in, case_item, pattern_more, item_end, function_command, simple_command, prefixed, called, suffix, prefix_item, suffix_item, assign, redirect, target, file, word, value, word_parts, more_parts, pattern, part, double_quotes, expansion, braces, fill, trim, subst, sum, sum_part, sum_group, body_parts, body}
 use Rattle.sh_grammar.specs.Steps.{Known}
 use Rattle.sh_grammar.specs.Depths.{rule_takes, rank, ranks}
 use Rattle.sh_grammar.specs.Spelling.{knowing, sh, sh_with}
@@ -70,6 +70,9 @@ rule_takes_is (braces c) = refl
 rule_takes_is (fill c) = refl
 rule_takes_is (trim c) = refl
 rule_takes_is subst = refl
+rule_takes_is sum = refl
+rule_takes_is sum_part = refl
+rule_takes_is sum_group = refl
 rule_takes_is body_parts = refl
 
 rule_shallow : (r : Rule) → shallow ranks (body r) (rank r) ≡ true
@@ -132,6 +135,9 @@ rule_shallow (braces c) = refl
 rule_shallow (fill c) = refl
 rule_shallow (trim c) = refl
 rule_shallow subst = refl
+rule_shallow sum = refl
+rule_shallow sum_part = refl
+rule_shallow sum_group = refl
 rule_shallow body_parts = refl
 
 rule_small : (r : Rule) → small ranks (body r) ≡ true
@@ -194,6 +200,9 @@ rule_small (braces c) = refl
 rule_small (fill c) = refl
 rule_small (trim c) = refl
 rule_small subst = refl
+rule_small sum = refl
+rule_small sum_part = refl
+rule_small sum_group = refl
 rule_small body_parts = refl
 
 rank_below : (r : Rule) → nat_le (suc (rank r)) ranks.levels ≡ true
@@ -256,6 +265,9 @@ rank_below (braces c) = refl
 rank_below (fill c) = refl
 rank_below (trim c) = refl
 rank_below subst = refl
+rank_below sum = refl
+rank_below sum_part = refl
+rank_below sum_group = refl
 rank_below body_parts = refl
 
 pub knowing_ends : (k : Known) → Ends (knowing k)

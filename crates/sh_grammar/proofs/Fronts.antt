@@ -1,6 +1,6 @@
 -- What a token leaves: an operator that the table reads takes a byte.
-use Rattle.std.proofs.Common.{◌≡◌, ℕ, suc, ◌+◌, ◌≤◌, ◌<◌, Bool, true, false, cond, List, [], ◌∷◌, length, Some, None, refl, sym, ap, subst, ◌∙◌, eqb-true, arith}
-use Rattle.std.specs.Prelude.{◌||◌, ◌&&◌, not, ◌==◌, nat_lt}
+use Rattle.std.proofs.Common.{◌≡◌, ℕ, suc, ◌+◌, ◌≤◌, Bool, true, cond, [], ◌∷◌, length, refl, sym, ap, subst, ◌∙◌, eqb-true, arith}
+use Rattle.std.specs.Prelude.{◌&&◌, not, ◌==◌, nat_lt}
 use Rattle.text_grammar.specs.Language.{one_if}
 use Rattle.sh_grammar.specs.Bytes.{Text, clear, gap, starts, in_word, unit_starts, digit_run}
 use Rattle.sh_grammar.specs.Tokens.{Op, End, Newline, Semi, SemiSemi, AndIf, OrIf, Pipe, Open, Close, Less, Great, DGreat, DLess, DLessDash, LessAnd, GreatAnd, Io, Word, Other, code, after_byte, goes_on_with, semi_at, and_at, pipe_at, here_at, less_at, great_at, is_angle, digits_word, word_at, front, token, is_token}
@@ -50,8 +50,8 @@ semi_fits : (n : ℕ) (bs : Text) → length bs ≤ n → TokenFits (suc n) (sem
 unfolding semi_at
 semi_fits n bs le =
     on_fits n 59 bs _ _ le
-        (λ cs i. on_fits n 38 cs _ _ i (λ ds j. behind_fits Other n ds j) (behind_fits SemiSemi n cs i))
-        (on_fits n 38 bs _ _ le (λ cs i. behind_fits Other n cs i) (behind_fits Semi n bs le))
+    (λ cs i. on_fits n 38 cs _ _ i (λ ds j. behind_fits Other n ds j) (behind_fits SemiSemi n cs i))
+    (on_fits n 38 bs _ _ le (λ cs i. behind_fits Other n cs i) (behind_fits Semi n bs le))
 
 and_fits : (n : ℕ) (bs : Text) → length bs ≤ n → TokenFits (suc n) (and_at bs)
 unfolding and_at
@@ -69,19 +69,19 @@ less_fits : (n : ℕ) (bs : Text) → length bs ≤ n → TokenFits (suc n) (les
 unfolding less_at
 less_fits n bs le =
     on_fits n 60 bs here_at _ le (λ cs i. here_fits n cs i)
-        (on_fits n 38 bs _ _ le (λ cs i. behind_fits LessAnd n cs i) (on_fits n 62 bs _ _ le (λ cs i. behind_fits Other n cs i) (behind_fits Less n bs le)))
+    (on_fits n 38 bs _ _ le (λ cs i. behind_fits LessAnd n cs i) (on_fits n 62 bs _ _ le (λ cs i. behind_fits Other n cs i) (behind_fits Less n bs le)))
 
 great_fits : (n : ℕ) (bs : Text) → length bs ≤ n → TokenFits (suc n) (great_at bs)
 unfolding great_at
 great_fits n bs le =
     on_fits n 62 bs _ _ le (λ cs i. behind_fits DGreat n cs i)
-        (on_fits n 38 bs _ _ le (λ cs i. behind_fits GreatAnd n cs i) (on_fits n 124 bs _ _ le (λ cs i. behind_fits Other n cs i) (behind_fits Great n bs le)))
+    (on_fits n 38 bs _ _ le (λ cs i. behind_fits GreatAnd n cs i) (on_fits n 124 bs _ _ le (λ cs i. behind_fits Other n cs i) (behind_fits Great n bs le)))
 
 digits_fit : (bytes : Text) → TokenFits (length bytes) (digits_word bytes (digit_run bytes))
 digits_fit bytes =
     let i = digit_run_fits bytes in
     chosen (TokenFits (length bytes)) (starts is_angle (digit_run bytes).1) (cond (length (digit_run bytes).0 == 1) (Io, (digit_run bytes).1) (Other, bytes)) (Word, bytes)
-        (chosen (TokenFits (length bytes)) (length (digit_run bytes).0 == 1) (Io, (digit_run bytes).1) (Other, bytes) (omega arith) (omega arith)) (omega arith)
+    (chosen (TokenFits (length bytes)) (length (digit_run bytes).0 == 1) (Io, (digit_run bytes).1) (Other, bytes) (omega arith) (omega arith)) (omega arith)
 
 word_fits : (bytes : Text) → TokenFits (length bytes) (word_at bytes)
 word_fits bytes = chosen (TokenFits (length bytes)) (starts Rattle.span_text.specs.Names.is_digit bytes) (digits_word bytes (digit_run bytes)) (Word, bytes) (digits_fit bytes) (omega arith)

@@ -1,14 +1,12 @@
 -- What is left behind names, parameters, what `${` begins, delimiters and bodies.
-use Rattle.std.proofs.Common.{◌≡◌, ℕ, zero, suc, ◌+◌, ◌≤◌, ◌<◌, Bool, true, false, cond, List, [], ◌∷◌, length, Option, Some, None, refl, sym, ap, subst, eqb-true, arith}
-use Rattle.std.specs.Prelude.{◌||◌, ◌&&◌, not, ◌==◌, nat_le}
-use Rattle.span_text.specs.Names.{begins_name, continues_name, is_digit}
-use Rattle.sh_grammar.specs.Shape.{Param, named, digits, FillTest, count, as_is, length_of}
-use Rattle.sh_grammar.specs.Bytes.{Text, is_join, clear, gap, starts, with_byte, run_from, name_run, digit_run, in_word, unit_starts}
-use Rattle.sh_grammar.specs.Expansions.{◌>>=◌, Head, closed, filling, trimming, named_as, special, one_digit, param_at, long_param_at, fill_test, fills, trims, operator_at, is_close, tail, length_head, or_else, is_dash, hash_head, is_hash, head_at, behind, behind_two, dollar_param, dollar_head}
-use Rattle.sh_grammar.specs.Tokens as tokens
-use Rattle.sh_grammar.specs.Tokens.{name_at, assign_at, tilde_at}
-use Rattle.sh_grammar.proofs.Tools.{chosen, chosen_by, If, then, chosen_some}
-use Rattle.sh_grammar.proofs.Lengths.{clear_fits, gap_fits, run_fits, name_run_fits, digit_run_fits}
+use Rattle.std.proofs.Common.{ℕ, suc, ◌+◌, ◌≤◌, Bool, true, false, [], ◌∷◌, length, Option, Some, None, arith}
+use Rattle.std.specs.Prelude.{◌||◌, ◌==◌}
+use Rattle.span_text.specs.Names.{begins_name, is_digit}
+use Rattle.sh_grammar.specs.Shape.{Param, FillTest, count}
+use Rattle.sh_grammar.specs.Bytes.{Text, clear}
+use Rattle.sh_grammar.specs.Expansions.{◌>>=◌, Head, filling, special, param_at, long_param_at, fill_test, fills, trims, operator_at, is_close, tail, length_head, or_else, is_dash, hash_head, is_hash, head_at, behind, behind_two, dollar_param, dollar_head, dollar_sum}
+use Rattle.sh_grammar.proofs.Tools.{chosen, If, then}
+use Rattle.sh_grammar.proofs.Lengths.{clear_fits, name_run_fits, digit_run_fits}
 
 -- what is behind what was read has at most n bytes
 abbrev pub Rest : {A : Type 0} → ℕ → A × Text → Type 0
@@ -69,7 +67,7 @@ operator_fits p (b ∷ bs) =
     (chosen P (b == 58) _ _ (weaker (length (clear bs)) n (fills p true (clear bs)) j (fills_fit p true (clear bs)))
     (chosen P (b == 35) _ _ (weaker (length (clear bs)) n (trims p false 35 (clear bs)) j (trims_fit p false 35 (clear bs)))
     (chosen P (b == 37) _ _ (weaker (length (clear bs)) n (trims p true 37 (clear bs)) j (trims_fit p true 37 (clear bs)))
-        (fills_fit p false (b ∷ bs)))))
+    (fills_fit p false (b ∷ bs)))))
 
 tail_fits : (bs : Text) → length (tail bs) ≤ length bs
 tail_fits [] = omega arith
@@ -99,8 +97,8 @@ head_fits bytes =
     let n = length bytes in let P = If (Rest {A = Head} n) in
     let t = tail_fits bytes in let c = clear_fits (tail bytes) in
     chosen P (is_hash bytes) _ _ (weaker (length (clear (tail bytes))) n (hash_head (clear (tail bytes))) (omega arith) (hash_fits (clear (tail bytes))))
-        (then (Rest {A = Param} n) (Rest {A = Head} n) (long_param_at bytes) (λ x. operator_at x.0 (clear x.1)) (long_param_fits bytes)
-            (λ x h. let d = clear_fits x.1 in weaker (length (clear x.1)) n (operator_at x.0 (clear x.1)) (omega arith) (operator_fits x.0 (clear x.1))))
+    (then (Rest {A = Param} n) (Rest {A = Head} n) (long_param_at bytes) (λ x. operator_at x.0 (clear x.1)) (long_param_fits bytes)
+    (λ x h. let d = clear_fits x.1 in weaker (length (clear x.1)) n (operator_at x.0 (clear x.1)) (omega arith) (operator_fits x.0 (clear x.1))))
 
 -- ---- at the `$`
 
@@ -124,7 +122,7 @@ pub behind_two_fits : (j k : ℕ) (bytes : Text) → If (Left (length bytes)) (b
 unfolding behind_two
 behind_two_fits j k bytes =
     then (Left (length bytes)) (Left (length bytes)) (behind j (clear bytes)) (λ rest. behind k (clear rest)) (behind_clear_fits j bytes)
-        (λ rest h. shorter (length rest) (length bytes) (behind k (clear rest)) (omega arith) (behind_clear_fits k rest))
+    (λ rest h. shorter (length rest) (length bytes) (behind k (clear rest)) (omega arith) (behind_clear_fits k rest))
 
 -- what is behind what was read is shorter than n
 abbrev pub RestLeft : {A : Type 0} → ℕ → A × Text → Type 0
@@ -138,10 +136,16 @@ pub dollar_param_fits : (bytes : Text) → If (RestLeft (length bytes)) (dollar_
 unfolding dollar_param
 dollar_param_fits bytes =
     then (Left (length bytes)) (RestLeft {A = Param} (length bytes)) (behind 36 (clear bytes)) (λ rest. param_at (clear rest)) (behind_clear_fits 36 bytes)
-        (λ rest h. let c = clear_fits rest in left_rest (length (clear rest)) (length bytes) (param_at (clear rest)) (omega arith) (param_fits (clear rest)))
+    (λ rest h. let c = clear_fits rest in left_rest (length (clear rest)) (length bytes) (param_at (clear rest)) (omega arith) (param_fits (clear rest)))
 
 pub dollar_head_fits : (bytes : Text) → If (RestLeft (length bytes)) (dollar_head bytes)
 unfolding dollar_head
 dollar_head_fits bytes =
     then (Left (length bytes)) (RestLeft {A = Head} (length bytes)) (behind_two 36 123 bytes) (λ rest. head_at (clear rest)) (behind_two_fits 36 123 bytes)
-        (λ rest h. let c = clear_fits rest in left_rest (length (clear rest)) (length bytes) (head_at (clear rest)) (omega arith) (head_fits (clear rest)))
+    (λ rest h. let c = clear_fits rest in left_rest (length (clear rest)) (length bytes) (head_at (clear rest)) (omega arith) (head_fits (clear rest)))
+
+pub dollar_sum_fits : (bytes : Text) → If (Left (length bytes)) (dollar_sum bytes)
+unfolding dollar_sum
+dollar_sum_fits bytes =
+    then (Left (length bytes)) (Left (length bytes)) (behind_two 36 40 bytes) (λ rest. behind 40 (clear rest)) (behind_two_fits 36 40 bytes)
+    (λ rest h. shorter (length rest) (length bytes) (behind 40 (clear rest)) (omega arith) (behind_clear_fits 40 rest))

@@ -1,9 +1,9 @@
 -- Reading leaves no more bytes than there were: joins, gaps, runs and names.
-use Rattle.std.proofs.Common.{◌≡◌, ℕ, suc, ◌+◌, ◌≤◌, ◌<◌, Bool, true, false, cond, List, [], ◌∷◌, length, Some, None, refl, arith}
+use Rattle.std.proofs.Common.{ℕ, suc, ◌+◌, ◌≤◌, Bool, true, false, cond, [], ◌∷◌, length, arith}
 use Rattle.std.specs.Prelude.{◌||◌, not, ◌==◌}
 use Rattle.span_text.specs.Names.{begins_name, continues_name}
-use Rattle.sh_grammar.specs.Bytes.{Text, is_join, clear_from, clear, comment_end, is_blank, gap_from, gap, idle_from, idle, with_byte, run_from, is_literal, in_word, literal_run, Context, name_run, digit_run}
-use Rattle.sh_grammar.proofs.Tools.{chosen, chosen_by}
+use Rattle.sh_grammar.specs.Bytes.{Text, is_join, clear_from, clear, comment_end, is_blank, gap_from, gap, idle_from, idle, with_byte, run_from, is_literal, literal_run, Context, name_run, digit_run}
+use Rattle.sh_grammar.proofs.Tools.{chosen}
 
 -- it has at most n bytes
 abbrev pub AtMost : ℕ → Text → Type 0
@@ -34,8 +34,8 @@ gap_from_fits false (b ∷ bs) =
     let hash = cond (b == 35) (comment_end bs) (b ∷ bs) in
     let join = cond (is_join b bs) (gap_from true bs) hash in
     chosen (AtMost n) (is_blank b) (gap_from false bs) join (omega arith)
-        (chosen (AtMost n) (is_join b bs) (gap_from true bs) hash (omega arith)
-            (chosen (AtMost n) (b == 35) (comment_end bs) (b ∷ bs) (omega arith) (omega arith)))
+    (chosen (AtMost n) (is_join b bs) (gap_from true bs) hash (omega arith)
+    (chosen (AtMost n) (b == 35) (comment_end bs) (b ∷ bs) (omega arith) (omega arith)))
 
 pub gap_fits : (bs : Text) → length (gap bs) ≤ length bs
 unfolding gap
@@ -55,8 +55,8 @@ idle_from_fits false false (b ∷ bs) =
     let hash = cond (b == 35) (idle_from false true bs) (b ∷ bs) in
     let join = cond (is_join b bs) (idle_from true false bs) hash in
     chosen (AtMost n) (is_blank b || b == 10) (idle_from false false bs) join (omega arith)
-        (chosen (AtMost n) (is_join b bs) (idle_from true false bs) hash (omega arith)
-            (chosen (AtMost n) (b == 35) (idle_from false true bs) (b ∷ bs) (omega arith) (omega arith)))
+    (chosen (AtMost n) (is_join b bs) (idle_from true false bs) hash (omega arith)
+    (chosen (AtMost n) (b == 35) (idle_from false true bs) (b ∷ bs) (omega arith) (omega arith)))
 
 pub idle_fits : (bs : Text) → length (idle bs) ≤ length bs
 unfolding idle
@@ -78,7 +78,7 @@ run_fits g false (b ∷ bs) =
     let p : Both n (with_byte b (run_from g false bs)) = omega arith in
     let q : Both n ([], b ∷ bs) = omega arith in
     chosen (Both n) (is_join b bs) (run_from g true bs) (cond (g b bs) (with_byte b (run_from g false bs)) ([], b ∷ bs)) (omega arith)
-        (chosen (Both n) (g b bs) (with_byte b (run_from g false bs)) ([], b ∷ bs) p q)
+    (chosen (Both n) (g b bs) (with_byte b (run_from g false bs)) ([], b ∷ bs) p q)
 
 pub literal_fits : (c : Context) (bs : Text) → Both (length bs) (literal_run c bs)
 unfolding literal_run

@@ -6,3 +6,9 @@ pub mod Names
 pub mod Lines
 pub mod Steps
 pub mod Ends
+pub mod Known
+pub mod Pieces
+pub mod Stuck
+pub mod Spelled
+pub mod Whole
+pub mod Stops

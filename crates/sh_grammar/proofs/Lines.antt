@@ -1,9 +1,9 @@
 -- What is left behind delimiters of here-documents and behind their bodies.
-use Rattle.std.proofs.Common.{◌≡◌, ℕ, zero, suc, ◌+◌, ◌≤◌, Bool, true, false, cond, List, [], ◌∷◌, length, Option, Some, None, refl, arith}
+use Rattle.std.proofs.Common.{ℕ, zero, suc, ◌≤◌, Bool, true, false, cond, List, [], ◌∷◌, length, Option, Some, None, arith}
 use Rattle.std.specs.Prelude.{◌||◌, ◌&&◌, not, ◌==◌}
 use Rattle.sh_grammar.specs.Bytes.{Text, is_join, in_word, in_double, is_plain, is_escaped, unit_starts}
 use Rattle.sh_grammar.specs.Expansions.{◌>>=◌}
-use Rattle.sh_grammar.specs.Bodies.{Owed, Mode, bare, single, doubled, kept, kept_doubled, joined, joined_doubled, Read, quoted, with, delimiter_from, delimiter_at, line_from, Place, line_start, within, join_at_start, join_within, kept_byte, last_line, or_further, with_byte, is_start, join_of, behind_byte, body_from, body_at, bodies_at}
+use Rattle.sh_grammar.specs.Bodies.{Owed, Mode, bare, single, doubled, kept, kept_doubled, joined, joined_doubled, Read, quoted, with, opens_expansion, delimiter_from, delimiter_at, line_from, Place, line_start, within, join_at_start, join_within, kept_byte, last_line, or_further, with_byte, is_start, join_of, behind_byte, body_from, body_at, bodies_at}
 use Rattle.sh_grammar.proofs.Tools.{chosen, If, then}
 use Rattle.sh_grammar.proofs.Heads.{Rest, weaker}
 
@@ -34,19 +34,20 @@ delimiter_from_fits bare (b ∷ bs) =
     (chosen P (b == 39) _ _ (quoted_fits (suc n) (delimiter_from single bs) (less n (delimiter_from single bs) (delimiter_from_fits single bs)))
     (chosen P (b == 34) _ _ (quoted_fits (suc n) (delimiter_from doubled bs) (less n (delimiter_from doubled bs) (delimiter_from_fits doubled bs)))
     (chosen P (b == 92) _ _ (quoted_fits (suc n) (delimiter_from kept bs) (less n (delimiter_from kept bs) (delimiter_from_fits kept bs)))
-    (chosen P (is_plain in_word b || b == 36) _ _ (with_fits (suc n) b (delimiter_from bare bs) (less n (delimiter_from bare bs) (delimiter_from_fits bare bs))) whole))))
+    (chosen P (b == 36 && opens_expansion bs) _ _ tt
+    (chosen P (is_plain in_word b || b == 36) _ _ (with_fits (suc n) b (delimiter_from bare bs) (less n (delimiter_from bare bs) (delimiter_from_fits bare bs))) whole)))))
 delimiter_from_fits single [] = tt
 delimiter_from_fits single (b ∷ bs) =
     let n = length bs in let P = Behind (suc n) in
     chosen P (b == 39) _ _ (less n (delimiter_from bare bs) (delimiter_from_fits bare bs))
-    (chosen P (b == 0) _ _ tt (with_fits (suc n) b (delimiter_from single bs) (less n (delimiter_from single bs) (delimiter_from_fits single bs))))
+    (chosen P (b == 10 || b == 0) _ _ tt (with_fits (suc n) b (delimiter_from single bs) (less n (delimiter_from single bs) (delimiter_from_fits single bs))))
 delimiter_from_fits doubled [] = tt
 delimiter_from_fits doubled (b ∷ bs) =
     let n = length bs in let P = Behind (suc n) in
     chosen P (is_join b bs) _ _ (less n (delimiter_from joined_doubled bs) (delimiter_from_fits joined_doubled bs))
     (chosen P (b == 34) _ _ (less n (delimiter_from bare bs) (delimiter_from_fits bare bs))
     (chosen P (b == 92) _ _ (less n (delimiter_from kept_doubled bs) (delimiter_from_fits kept_doubled bs))
-    (chosen P (b == 96 || b == 0) _ _ tt (with_fits (suc n) b (delimiter_from doubled bs) (less n (delimiter_from doubled bs) (delimiter_from_fits doubled bs))))))
+    (chosen P (b == 96 || b == 10 || b == 0) _ _ tt (with_fits (suc n) b (delimiter_from doubled bs) (less n (delimiter_from doubled bs) (delimiter_from_fits doubled bs))))))
 delimiter_from_fits kept [] = tt
 delimiter_from_fits kept (b ∷ bs) =
     let n = length bs in let P = Behind (suc n) in
@@ -122,7 +123,7 @@ bytes_fit o p b bs further =
     chosen P (b == 0) _ _ tt
     (chosen P (not o.literal && is_join b bs) _ _ (body_less n j (further (join_of p)))
     (chosen P (o.strips && is_start p && b == 9) _ _ (body_less n k (further p))
-        (byte_fits (suc n) b q (body_less n q (further (behind_byte o.literal b))))))
+    (byte_fits (suc n) b q (body_less n q (further (behind_byte o.literal b))))))
 
 body_from_fits : (o : Owed) (p : Place) (bytes : Text) → Body (length bytes) (body_from o p bytes)
 unfolding body_from
@@ -151,4 +152,4 @@ bodies_fit [] bytes = omega arith
 bodies_fit (o ∷ os) bytes =
     let n = length bytes in
     then (Rest {A = Text} n) (Rest {A = List Text} n) (body_at o bytes) (λ x. bodies_at os x.1 >>= λ y. Some (x.0 ∷ y.0, y.1)) (body_fits o bytes)
-        (λ x h. then (Rest {A = List Text} (length x.1)) (Rest {A = List Text} n) (bodies_at os x.1) (λ y. Some (x.0 ∷ y.0, y.1)) (bodies_fit os x.1) (λ y j. omega arith))
+    (λ x h. then (Rest {A = List Text} (length x.1)) (Rest {A = List Text} n) (bodies_at os x.1) (λ y. Some (x.0 ∷ y.0, y.1)) (bodies_fit os x.1) (λ y j. omega arith))

@@ -1,12 +1,12 @@
 -- What is left behind names, and behind a tilde.
-use Rattle.std.proofs.Common.{◌≡◌, ℕ, zero, suc, ◌+◌, ◌≤◌, ◌<◌, Bool, true, false, cond, List, [], ◌∷◌, length, Option, Some, None, refl, sym, ap, subst, eqb-true, arith}
-use Rattle.std.specs.Prelude.{◌||◌, ◌&&◌, not, ◌==◌, nat_le}
+use Rattle.std.proofs.Common.{◌≡◌, ℕ, suc, ◌+◌, ◌≤◌, Bool, true, false, cond, [], ◌∷◌, length, Option, Some, None, refl, subst, eqb-true, arith}
+use Rattle.std.specs.Prelude.{◌||◌, ◌&&◌, not, ◌==◌}
 use Rattle.span_text.specs.Names.{is_letter, begins_name, continues_name, is_digit}
-use Rattle.sh_grammar.specs.Bytes.{Text, is_join, clear, gap, starts, with_byte, run_from, name_run, in_word, unit_starts}
+use Rattle.sh_grammar.specs.Bytes.{Text, is_join, clear, gap, starts, name_run, in_word, unit_starts}
 use Rattle.sh_grammar.specs.Tokens.{◌>>=◌, behind, name_at, assign_at, tilde_at}
 use Rattle.sh_grammar.proofs.Tools.{chosen, chosen_by, If}
-use Rattle.sh_grammar.proofs.Lengths.{clear_fits, gap_fits, run_fits, name_run_fits}
-use Rattle.sh_grammar.proofs.Heads.{Left, Rest, RestLeft}
+use Rattle.sh_grammar.proofs.Lengths.{clear_fits, gap_fits, run_fits}
+use Rattle.sh_grammar.proofs.Heads.{Left, RestLeft}
 
 no_letter : is_letter 92 ≡ true → ⊥
 no_letter e = absurd cc
@@ -49,12 +49,12 @@ unfolding assign_at
 assign_fits bytes =
     let n = length bytes in let g = gap_fits bytes in
     then (RestLeft {A = Text} (length (gap bytes))) (RestLeft {A = Text} n) (name_at (gap bytes)) (λ x. behind 61 (clear x.1) >>= λ rest. Some (x.0, rest)) (name_fits (gap bytes))
-        (λ x h. let c = clear_fits x.1 in
-            then (Left (length (clear x.1))) (RestLeft {A = Text} n) (behind 61 (clear x.1)) (λ rest. Some (x.0, rest)) (behind_left 61 (clear x.1)) (λ rest j. omega arith))
+    (λ x h. let c = clear_fits x.1 in
+    then (Left (length (clear x.1))) (RestLeft {A = Text} n) (behind 61 (clear x.1)) (λ rest. Some (x.0, rest)) (behind_left 61 (clear x.1)) (λ rest j. omega arith))
 
 pub tilde_fits : (bytes : Text) → If (Left (length bytes)) (tilde_at bytes)
 unfolding tilde_at
 tilde_fits bytes =
     let n = length bytes in
     then (Left n) (Left n) (behind 126 bytes) (λ rest. cond (starts (λ b. b == 47) (clear rest) || not (unit_starts in_word (clear rest))) (Some rest) None) (behind_left 126 bytes)
-        (λ rest h. chosen (If (Left n)) (starts (λ b. b == 47) (clear rest) || not (unit_starts in_word (clear rest))) (Some rest) None h tt)
+    (λ rest h. chosen (If (Left n)) (starts (λ b. b == 47) (clear rest) || not (unit_starts in_word (clear rest))) (Some rest) None h tt)

@@ -1,5 +1,5 @@
 -- What holds of a choice, and of what is read one behind the other.
-use Rattle.std.proofs.Common.{◌≡◌, Bool, true, false, cond, Option, Some, None, refl, sym, subst}
+use Rattle.std.proofs.Common.{◌≡◌, Bool, true, false, cond, Option, Some, None, refl, subst}
 use Rattle.sh_grammar.specs.Expansions.{◌>>=◌}
 
 -- what holds of both ways holds of the choice

@@ -1,5 +1,5 @@
 -- What stands behind a `$` (POSIX 2.5.1, 2.5.2, 2.6).
-use Rattle.std.specs.Prelude.{ℕ, Bool, true, false, ◌||◌, ◌&&◌, not, ◌==◌, List, [], ◌∷◌, Option, Some, None, if◌then◌else◌}
+use Rattle.std.specs.Prelude.{ℕ, Bool, true, false, ◌||◌, ◌&&◌, not, ◌==◌, [], ◌∷◌, Option, Some, None, if◌then◌else◌}
 use Rattle.span_text.specs.Names.{begins_name, is_digit}
 use Rattle.sh_grammar.specs.Shape.{Param, named, digits, count, status, at, star, ParamOp, as_is, length_of, FillTest, default, assigning, alternate}
 use Rattle.sh_grammar.specs.Bytes.{Text, clear, starts, name_run, digit_run}

@@ -10,4 +10,5 @@ pub mod Steps
 pub mod Acts
 pub mod Depths
 pub mod Spelling
+pub mod Pieces
 pub mod Examples

@@ -1,5 +1,5 @@
 -- Which text spells which script.
-use Rattle.std.specs.Prelude.{◌≡◌, ℕ, zero, suc, List, [], ◌∷◌, ◌++◌, length, Option, Some, None, if◌then◌else◌, ◌==◌}
+use Rattle.std.specs.Prelude.{◌≡◌, ℕ, zero, suc, List, [], ◌∷◌, ◌++◌, length, Option, Some, None}
 use Rattle.text_grammar.specs.Grammar.{rule}
 use Rattle.text_grammar.specs.Language.{Language}
 use Rattle.text_grammar.specs.Derivations.{Tree}

@@ -125,10 +125,10 @@ head_read s (trimming p x l, rest) = gives (head_node (trimming p x l)) s rest
 
 -- ---- arithmetic expansions
 
-abbrev with_sums : State → List Rattle.sh_grammar.specs.State.Sum → Text → Read
+abbrev pub with_sums : State → List Rattle.sh_grammar.specs.State.Sum → Text → Read
 with_sums s sums bytes = Some (quiet, record s { bytes = bytes; sums = sums })
 
-abbrev bytes_read : State → Text × Text → Read
+abbrev pub bytes_read : State → Text × Text → Read
 bytes_read s ([], rest) = None
 bytes_read s (b ∷ bs, rest) = with_sums s (with_bytes (b ∷ bs) s.sums) rest
 
@@ -185,7 +185,7 @@ abbrev pub dollar_behind : Text → Bool
 dollar_behind [] = false
 dollar_behind (b ∷ bs) = b == 36 && not (is_bare_dollar bs)
 
-abbrev is_empty : Text → Bool
+abbrev pub is_empty : Text → Bool
 is_empty [] = true
 is_empty (b ∷ bs) = false
 

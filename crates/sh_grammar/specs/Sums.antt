@@ -1,6 +1,5 @@
 -- Arithmetic expansions (POSIX 2.6.4): which of their bytes and operands spell an expression of sh.
-use Rattle.std.specs.Prelude.{ℕ, suc, ◌+◌, Bool, true, false, ◌&&◌, ◌||◌, not, ◌==◌, List, [], ◌∷◌, ◌++◌, length, Option, Some, None, if◌then◌else◌}
-use Rattle.span_text.specs.declared.span.Span.{Span}
+use Rattle.std.specs.Prelude.{ℕ, ◌+◌, Bool, true, false, ◌&&◌, ◌||◌, not, ◌==◌, List, [], ◌∷◌, ◌++◌, length, Option, Some, None, if◌then◌else◌}
 use Rattle.span_text.specs.declared.expr.Expr.{Expr}
 use Rattle.span_text.specs.declared.expr.Expr.TheOpen.{Expr-F}
 use Rattle.span_text.specs.declared.expr.Expr.TheOpen as open_expr

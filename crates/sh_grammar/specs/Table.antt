@@ -1,5 +1,5 @@
 -- The grammar of sh, as a table (POSIX 2.10.2).
-use Rattle.text_grammar.specs.Grammar.{Grammar, pass, fail, step, seq, choose, star, rule, ◌then◌}
+use Rattle.text_grammar.specs.Grammar.{Grammar, pass, fail, step, choose, star, rule, ◌then◌}
 use Rattle.sh_grammar.specs.Bytes.{Context, in_word, in_double, in_body, fill_context, trim_context}
 use Rattle.sh_grammar.specs.Tokens.{Op, Newline, Semi, SemiSemi, AndIf, Pipe, Open, Close, Io, Key, If, Then, Elif, Else, Fi, For, In, Until, While, Do, Done, Case, Esac, OpenBrace, CloseBrace, Bang}
 
@@ -182,7 +182,6 @@ body list = rule lines then rule chain then star separates (rule list_more)
 body maybe_list = rule lines then choose pipeline_begins (rule chain then star separates (rule list_more)) pass
 body list_more = choose (next Semi) (step (op Semi)) (step line) then rule lines then choose pipeline_begins (rule chain) (choose (next Semi) fail pass)
 body lines = star (next Newline) (step line)
-
 -- ---- pipelines
 
 -- chain: pipeline (('&&' | '||') newline* pipeline)*
@@ -194,7 +193,6 @@ body or_link = step (op Rattle.sh_grammar.specs.Tokens.OrIf) then rule lines the
 body pipeline = choose (key_next Bang) (rule bang) pass then rule command then star (next Pipe) (rule stage)
 body bang = step (key Bang)
 body stage = step (op Pipe) then rule lines then rule command
-
 -- ---- commands
 
 -- command: compound redirect* | function | simple
@@ -239,7 +237,6 @@ body assign = step assign_name then choose (unit_begins in_word) (rule value) pa
 body redirect = choose (next Io) (step descriptor) pass then rule target
 body target = choose here_begins (step here) (choose copy_begins (step copy) (rule file))
 body file = step file_op then rule word
-
 -- ---- words
 
 -- word: part+, of which the first may be `~`; a pattern has no `~`

@@ -1,5 +1,5 @@
 -- Tokens: operators, reserved words, names (POSIX 2.3, 2.4, 2.10).
-use Rattle.std.specs.Prelude.{ℕ, suc, Bool, true, false, ◌||◌, ◌&&◌, not, ◌==◌, nat_le, List, [], ◌∷◌, length, Option, Some, None, if◌then◌else◌, codes}
+use Rattle.std.specs.Prelude.{ℕ, Bool, true, false, ◌||◌, ◌&&◌, not, ◌==◌, [], ◌∷◌, length, Option, Some, None, if◌then◌else◌, codes}
 use Rattle.span_text.specs.Names.{begins_name, is_digit}
 use Rattle.span_text.specs.KnownNames.{same_text}
 use Rattle.sh_grammar.specs.Bytes.{Text, clear, gap, starts, in_word, literal_run, unit_starts, name_run, digit_run}
