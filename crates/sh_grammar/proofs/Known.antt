@@ -7,7 +7,7 @@ use Rattle.sh_grammar.specs.Shape.{Parts}
 use Rattle.sh_grammar.specs.Bytes.{Text}
 use Rattle.sh_grammar.specs.Tokens.{Op, DLess, DLessDash, token}
 use Rattle.sh_grammar.specs.Expansions.{◌>>=◌}
-use Rattle.sh_grammar.specs.Bodies.{delimiter_at}
+use Rattle.sh_grammar.specs.Bodies.{delimiter_for}
 use Rattle.sh_grammar.specs.State.{State, start_at, Node, word_in}
 use Rattle.sh_grammar.specs.Table.{body_parts, Step, op, key, line, ends, name, assign_name, descriptor, file_op, here, copy, to_word, tilde, literal, escaped, exact, quote, dollar, closed, open_head, open_subst, close_brace, open_sum, sum_bytes, operand, sum_open, sum_close, close_sum, enter, leave}
 use Rattle.sh_grammar.specs.Steps.{Known, Read, word_place, here_node, here_read, run_step}
@@ -44,9 +44,9 @@ after_over : (k : Known) (f : ℕ → Text → Option Parts) (s : State) (strips
 after_over k f s strips None e x i = absurd cc
 after_over k f s strips (Some d) e x i = node_over (named_at s strips d) (here_node k s d.0.1) (here_node (nothing f) s d.0.1) (known_node f s d.0.1) e x i
 
-place_over : (k : Known) (f : ℕ → Text → Option Parts) (s : State) (strips : Bool) (o : Option Text) → Over (o >>= λ place. delimited k s strips (delimiter_at place)) (o >>= λ place. delimited (nothing f) s strips (delimiter_at place))
+place_over : (k : Known) (f : ℕ → Text → Option Parts) (s : State) (strips : Bool) (o : Option Text) → Over (o >>= λ place. delimited k s strips (delimiter_for strips place)) (o >>= λ place. delimited (nothing f) s strips (delimiter_for strips place))
 place_over k f s strips None e x i = absurd cc
-place_over k f s strips (Some place) e x i = after_over k f s strips (delimiter_at place) e x i
+place_over k f s strips (Some place) e x i = after_over k f s strips (delimiter_for strips place) e x i
 
 here_over : (k : Known) (f : ℕ → Text → Option Parts) (s : State) (t : Op × Text) → Over (here_read k s t) (here_read (nothing f) s t)
 here_over k f s (DLess, rest) e x i = place_over k f s false (word_place rest) e x i

@@ -1,9 +1,9 @@
 -- What is left behind delimiters of here-documents and behind their bodies.
 use Rattle.std.proofs.Common.{ℕ, zero, suc, ◌≤◌, Bool, true, false, cond, List, [], ◌∷◌, length, Option, Some, None, arith}
 use Rattle.std.specs.Prelude.{◌||◌, ◌&&◌, not, ◌==◌}
-use Rattle.sh_grammar.specs.Bytes.{Text, is_join, in_word, in_double, is_plain, is_escaped, unit_starts}
+use Rattle.sh_grammar.specs.Bytes.{Text, starts, is_join, in_word, in_double, is_plain, is_escaped, unit_starts}
 use Rattle.sh_grammar.specs.Expansions.{◌>>=◌}
-use Rattle.sh_grammar.specs.Bodies.{Owed, Mode, bare, single, doubled, kept, kept_doubled, joined, joined_doubled, Read, quoted, with, opens_expansion, delimiter_from, delimiter_at, line_from, Place, line_start, within, join_at_start, join_within, kept_byte, last_line, or_further, with_byte, is_start, join_of, behind_byte, body_from, body_at, bodies_at}
+use Rattle.sh_grammar.specs.Bodies.{Owed, Mode, bare, single, doubled, kept, kept_doubled, joined, joined_doubled, Read, quoted, with, opens_expansion, delimiter_from, delimiter_at, may_end, delimiter_for, line_from, Place, line_start, within, join_at_start, join_within, kept_byte, last_line, or_further, with_byte, is_start, join_of, behind_byte, body_from, body_at, bodies_at}
 use Rattle.sh_grammar.proofs.Tools.{chosen, If, then}
 use Rattle.sh_grammar.proofs.Heads.{Rest, weaker}
 
@@ -67,6 +67,12 @@ pub delimiter_fits : (bytes : Text) → If (Rest {A = Text × Bool} (length byte
 unfolding delimiter_at
 delimiter_fits bytes = chosen (Behind (length bytes)) (unit_starts in_word bytes) _ _ (delimiter_from_fits bare bytes) tt
 
+pub delimiter_for_fits : (strips : Bool) (bytes : Text) → Behind (length bytes) (delimiter_for strips bytes)
+unfolding delimiter_for
+delimiter_for_fits strips bytes =
+    then (Rest {A = Text × Bool} (length bytes)) (Rest {A = Text × Bool} (length bytes)) (delimiter_at bytes) (may_end strips) (delimiter_fits bytes)
+    (λ d h. chosen (Behind (length bytes)) (strips && starts (λ b. b == 9) d.0.0) None (Some d) tt h)
+
 -- ---- the last line
 
 abbrev Line : ℕ → Option Text → Type 0
@@ -127,7 +133,7 @@ bytes_fit o p b bs further =
 
 body_from_fits : (o : Owed) (p : Place) (bytes : Text) → Body (length bytes) (body_from o p bytes)
 unfolding body_from
-body_from_fits o line_start [] = further_fits zero (last_line o line_start []) None (last_fits o line_start []) tt
+body_from_fits o line_start [] = tt
 body_from_fits o within [] = tt
 body_from_fits o join_at_start [] = tt
 body_from_fits o join_within [] = tt

@@ -7,7 +7,7 @@ use Rattle.sh_grammar.specs.Shape.{Parts, Param, RedirectOp}
 use Rattle.sh_grammar.specs.Bytes.{Text, Context, clear, gap, in_word, literal_run, unit_starts, is_escaped}
 use Rattle.sh_grammar.specs.Tokens.{Op, End, Newline, Less, Great, DGreat, DLess, DLessDash, LessAnd, GreatAnd, Word, Key, If, Then, Elif, Else, Fi, For, In, Until, While, Do, Done, Case, Esac, OpenBrace, CloseBrace, Bang, token, is_token, key_text, bare, is_whole, is_key, name_at, assign_at, tilde_at}
 use Rattle.sh_grammar.specs.Expansions.{◌>>=◌, Head, closed as closed_head, filling, trimming, dollar_param, dollar_head, dollar_sum, behind_two}
-use Rattle.sh_grammar.specs.Bodies.{Owed, delimiter_at, bodies_at}
+use Rattle.sh_grammar.specs.Bodies.{Owed, delimiter_for, bodies_at}
 use Rattle.sh_grammar.specs.State.{State, move, Node, text_node, expr_node}
 use Rattle.span_text.specs.declared.expr.Expr.{Expr}
 use Rattle.sh_grammar.specs.Sums.{is_sum_byte, sum_run, innermost, without_innermost}
@@ -21,7 +21,7 @@ use Rattle.sh_grammar.proofs.Lengths.{clear_fits, gap_fits, literal_fits}
 use Rattle.sh_grammar.proofs.Fronts.{TokenFits, token_fits, found_fits}
 use Rattle.sh_grammar.proofs.Heads.{Rest, Left, RestLeft, behind_two_fits, dollar_param_fits, dollar_head_fits, dollar_sum_fits}
 use Rattle.sh_grammar.proofs.Names.{name_fits, assign_fits, tilde_fits}
-use Rattle.sh_grammar.proofs.Lines.{delimiter_fits, bodies_fit}
+use Rattle.sh_grammar.proofs.Lines.{delimiter_for_fits, bodies_fit}
 
 -- with k bytes more than these there are at most n
 abbrev Behind : ℕ → ℕ → Read → Type 0
@@ -163,7 +163,7 @@ node_fits s n rest owed (Some x) le = le
 here_after_fits : (k : Known) (s : State) (strips : Bool) (n : ℕ) (bytes : Text) → length bytes + 1 ≤ n → Behind n 1 (here_after k s strips bytes)
 here_after_fits k s strips n bytes le =
     on n (Within (length bytes)) (word_place bytes) _ (place_fits bytes)
-    (λ place i. on n (Rest {A = Text × Bool} (length place)) (delimiter_at place) _ (delimiter_fits place)
+    (λ place i. on n (Rest {A = Text × Bool} (length place)) (delimiter_for strips place) _ (delimiter_for_fits strips place)
     (λ d h. node_fits s n d.1 (s.owed ++ record { delimiter = d.0.0; literal = d.0.1; strips = strips } ∷ []) (here_node k s d.0.1) (omega arith)))
 
 here_fits : (k : Known) (s : State) (n : ℕ) (x : Op × Text) → TokenFits n x → Behind n 1 (here_read k s x)

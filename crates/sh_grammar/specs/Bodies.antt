@@ -68,6 +68,14 @@ delimiter_from joined_doubled (b ∷ bs) = delimiter_from doubled bs
 unfoldable pub delimiter_at : Text → Option ((Text × Bool) × Text)
 delimiter_at bytes = if unit_starts in_word bytes then delimiter_from bare bytes else None
 
+-- Tabs are dropped before a line is looked at, so no line is a delimiter that begins with one.
+abbrev pub may_end : Bool → (Text × Bool) × Text → Option ((Text × Bool) × Text)
+may_end strips d = if strips && starts (λ b. b == 9) d.0.0 then None else Some d
+
+-- the delimiter behind `<<`, or behind `<<-`, which strips
+unfoldable pub delimiter_for : Bool → Text → Option ((Text × Bool) × Text)
+delimiter_for strips bytes = delimiter_at bytes >>= may_end strips
+
 -- ---- bodies
 
 -- Behind the line `name`, which is the last one or ends with a newline. Joins count as removed unless the body is literal.
@@ -120,9 +128,9 @@ join_of kept_byte = join_within
 abbrev pub behind_byte : Bool → ℕ → Place
 behind_byte literal b = if b == 10 then line_start else (if b == 92 && not literal then kept_byte else within)
 
--- the lines before the delimiter's line, and what follows that line
+-- The lines before the delimiter's line, and what follows that line. Behind the last newline no line begins.
 unfoldable pub body_from : Owed → Place → Text → Option (Text × Text)
-body_from o p [] = or_further (last_line o p []) None
+body_from o p [] = None
 body_from o join_at_start (b ∷ bs) = body_from o line_start bs
 body_from o join_within (b ∷ bs) = body_from o within bs
 body_from o kept_byte (b ∷ bs) = if b == 0 then None else with_byte b (body_from o within bs)

@@ -153,7 +153,7 @@ fill_context in_body = in_body_brace
 fill_context in_brace = in_brace
 fill_context in_quoted_brace = in_quoted_brace
 fill_context in_body_brace = in_body_brace
-fill_context in_body_pattern = in_body_brace
+fill_context in_body_pattern = in_body_pattern
 
 -- where the pattern of `${a%w}` stands
 unfoldable pub trim_context : Context → Context

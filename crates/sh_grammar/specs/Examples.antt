@@ -10,7 +10,7 @@ use Rattle.sh_grammar.specs.Shape.{Script, plain, exact, double, tilde, param, n
 use Rattle.sh_grammar.specs.Bytes.{Text, is_literal, clear, comment_end, gap, is_special_param, expands, is_meta, is_active, is_plain, is_escaped, has_single, has_double, fill_context, trim_context, literal_run, begins_unit, unit_starts, name_run, digit_run, idle}
 use Rattle.sh_grammar.specs.Tokens.{front, token, is_token, code, semi_at, and_at, pipe_at, here_at, less_at, great_at, key_text, is_key, here_next, copy_next, redirect_next, name_next, simple_next, compound_next, command_next, pipeline_next, name_at, assign_at, assign_next, function_next, tilde_at, tilde_next}
 use Rattle.sh_grammar.specs.Expansions.{◌>>=◌, param_at, long_param_at, head_at, behind_two, dollar_param, dollar_head, dollar_sum, subst_next, sum_next, brace_next, closed_next, filling_next}
-use Rattle.sh_grammar.specs.Bodies.{delimiter_from, delimiter_at, body_from, body_at, bodies_at}
+use Rattle.sh_grammar.specs.Bodies.{delimiter_from, delimiter_at, delimiter_for, body_from, body_at, bodies_at}
 use Rattle.sh_grammar.specs.State.{State, start_at, Node, chains_in}
 use Rattle.sh_grammar.specs.Steps.{run_step, holds, quoted_run}
 use Rattle.sh_grammar.specs.Spelling.{sh}
@@ -64,7 +64,7 @@ simple_commands =
     (codes "\na", Some (no_chain, codes "a")) ∷ []
 
 simple_commands_read : map (λ r. first r.0) simple_commands ≡ map (λ r. r.1) simple_commands
-unfolding parse read vals vals_twice sh run_step holds quoted_run front token is_token code semi_at and_at pipe_at here_at less_at great_at key_text is_key here_next copy_next redirect_next name_next simple_next compound_next command_next pipeline_next name_at assign_at assign_next function_next tilde_at tilde_next is_literal clear comment_end gap is_special_param expands is_meta is_active is_plain is_escaped has_single has_double fill_context trim_context literal_run begins_unit unit_starts name_run digit_run idle param_at long_param_at head_at behind_two dollar_param dollar_head dollar_sum subst_next sum_next brace_next closed_next filling_next delimiter_from delimiter_at body_from body_at bodies_at begins_name continues_name sum_run next_piece
+unfolding parse read vals vals_twice sh run_step holds quoted_run front token is_token code semi_at and_at pipe_at here_at less_at great_at key_text is_key here_next copy_next redirect_next name_next simple_next compound_next command_next pipeline_next name_at assign_at assign_next function_next tilde_at tilde_next is_literal clear comment_end gap is_special_param expands is_meta is_active is_plain is_escaped has_single has_double fill_context trim_context literal_run begins_unit unit_starts name_run digit_run idle param_at long_param_at head_at behind_two dollar_param dollar_head dollar_sum subst_next sum_next brace_next closed_next filling_next delimiter_from delimiter_at delimiter_for body_from body_at bodies_at begins_name continues_name sum_run next_piece
 simple_commands_read = refl
 
 -- here-documents (2.7.4)
@@ -76,7 +76,7 @@ here_documents =
     (codes "a <<E\nx\n", None) ∷ []
 
 here_documents_read : map (λ r. first r.0) here_documents ≡ map (λ r. r.1) here_documents
-unfolding parse read vals vals_twice sh run_step holds quoted_run front token is_token code semi_at and_at pipe_at here_at less_at great_at key_text is_key here_next copy_next redirect_next name_next simple_next compound_next command_next pipeline_next name_at assign_at assign_next function_next tilde_at tilde_next is_literal clear comment_end gap is_special_param expands is_meta is_active is_plain is_escaped has_single has_double fill_context trim_context literal_run begins_unit unit_starts name_run digit_run idle param_at long_param_at head_at behind_two dollar_param dollar_head dollar_sum subst_next sum_next brace_next closed_next filling_next delimiter_from delimiter_at body_from body_at bodies_at begins_name continues_name sum_run next_piece
+unfolding parse read vals vals_twice sh run_step holds quoted_run front token is_token code semi_at and_at pipe_at here_at less_at great_at key_text is_key here_next copy_next redirect_next name_next simple_next compound_next command_next pipeline_next name_at assign_at assign_next function_next tilde_at tilde_next is_literal clear comment_end gap is_special_param expands is_meta is_active is_plain is_escaped has_single has_double fill_context trim_context literal_run begins_unit unit_starts name_run digit_run idle param_at long_param_at head_at behind_two dollar_param dollar_head dollar_sum subst_next sum_next brace_next closed_next filling_next delimiter_from delimiter_at delimiter_for body_from body_at bodies_at begins_name continues_name sum_run next_piece
 here_documents_read = refl
 
 -- compound commands and functions (2.9.4, 2.9.5)
@@ -99,7 +99,7 @@ compound_commands =
     (codes "f() a", None) ∷ []
 
 compound_commands_read : map (λ r. first r.0) compound_commands ≡ map (λ r. r.1) compound_commands
-unfolding parse read vals vals_twice sh run_step holds quoted_run front token is_token code semi_at and_at pipe_at here_at less_at great_at key_text is_key here_next copy_next redirect_next name_next simple_next compound_next command_next pipeline_next name_at assign_at assign_next function_next tilde_at tilde_next is_literal clear comment_end gap is_special_param expands is_meta is_active is_plain is_escaped has_single has_double fill_context trim_context literal_run begins_unit unit_starts name_run digit_run idle param_at long_param_at head_at behind_two dollar_param dollar_head dollar_sum subst_next sum_next brace_next closed_next filling_next delimiter_from delimiter_at body_from body_at bodies_at begins_name continues_name sum_run next_piece
+unfolding parse read vals vals_twice sh run_step holds quoted_run front token is_token code semi_at and_at pipe_at here_at less_at great_at key_text is_key here_next copy_next redirect_next name_next simple_next compound_next command_next pipeline_next name_at assign_at assign_next function_next tilde_at tilde_next is_literal clear comment_end gap is_special_param expands is_meta is_active is_plain is_escaped has_single has_double fill_context trim_context literal_run begins_unit unit_starts name_run digit_run idle param_at long_param_at head_at behind_two dollar_param dollar_head dollar_sum subst_next sum_next brace_next closed_next filling_next delimiter_from delimiter_at delimiter_for body_from body_at bodies_at begins_name continues_name sum_run next_piece
 compound_commands_read = refl
 
 -- lists and pipelines (2.9.2, 2.9.3)
@@ -115,7 +115,7 @@ lists =
     (codes "a & b", None) ∷ []
 
 lists_read : map (λ r. first r.0) lists ≡ map (λ r. r.1) lists
-unfolding parse read vals vals_twice sh run_step holds quoted_run front token is_token code semi_at and_at pipe_at here_at less_at great_at key_text is_key here_next copy_next redirect_next name_next simple_next compound_next command_next pipeline_next name_at assign_at assign_next function_next tilde_at tilde_next is_literal clear comment_end gap is_special_param expands is_meta is_active is_plain is_escaped has_single has_double fill_context trim_context literal_run begins_unit unit_starts name_run digit_run idle param_at long_param_at head_at behind_two dollar_param dollar_head dollar_sum subst_next sum_next brace_next closed_next filling_next delimiter_from delimiter_at body_from body_at bodies_at begins_name continues_name sum_run next_piece
+unfolding parse read vals vals_twice sh run_step holds quoted_run front token is_token code semi_at and_at pipe_at here_at less_at great_at key_text is_key here_next copy_next redirect_next name_next simple_next compound_next command_next pipeline_next name_at assign_at assign_next function_next tilde_at tilde_next is_literal clear comment_end gap is_special_param expands is_meta is_active is_plain is_escaped has_single has_double fill_context trim_context literal_run begins_unit unit_starts name_run digit_run idle param_at long_param_at head_at behind_two dollar_param dollar_head dollar_sum subst_next sum_next brace_next closed_next filling_next delimiter_from delimiter_at delimiter_for body_from body_at bodies_at begins_name continues_name sum_run next_piece
 lists_read = refl
 
 -- words (2.2, 2.6)
@@ -138,7 +138,7 @@ parts =
     (codes "'a", None) ∷ []
 
 parts_read : map (λ r. first r.0) parts ≡ map (λ r. r.1) parts
-unfolding parse read vals vals_twice sh run_step holds quoted_run front token is_token code semi_at and_at pipe_at here_at less_at great_at key_text is_key here_next copy_next redirect_next name_next simple_next compound_next command_next pipeline_next name_at assign_at assign_next function_next tilde_at tilde_next is_literal clear comment_end gap is_special_param expands is_meta is_active is_plain is_escaped has_single has_double fill_context trim_context literal_run begins_unit unit_starts name_run digit_run idle param_at long_param_at head_at behind_two dollar_param dollar_head dollar_sum subst_next sum_next brace_next closed_next filling_next delimiter_from delimiter_at body_from body_at bodies_at begins_name continues_name sum_run next_piece
+unfolding parse read vals vals_twice sh run_step holds quoted_run front token is_token code semi_at and_at pipe_at here_at less_at great_at key_text is_key here_next copy_next redirect_next name_next simple_next compound_next command_next pipeline_next name_at assign_at assign_next function_next tilde_at tilde_next is_literal clear comment_end gap is_special_param expands is_meta is_active is_plain is_escaped has_single has_double fill_context trim_context literal_run begins_unit unit_starts name_run digit_run idle param_at long_param_at head_at behind_two dollar_param dollar_head dollar_sum subst_next sum_next brace_next closed_next filling_next delimiter_from delimiter_at delimiter_for body_from body_at bodies_at begins_name continues_name sum_run next_piece
 parts_read = refl
 
 -- ---- whole texts
@@ -155,7 +155,7 @@ whole_texts =
     (codes "a &", None) ∷ []
 
 whole_texts_read : map (λ r. script_of r.0) whole_texts ≡ map (λ r. r.1) whole_texts
-unfolding parse read vals vals_twice sh run_step holds quoted_run front token is_token code semi_at and_at pipe_at here_at less_at great_at key_text is_key here_next copy_next redirect_next name_next simple_next compound_next command_next pipeline_next name_at assign_at assign_next function_next tilde_at tilde_next is_literal clear comment_end gap is_special_param expands is_meta is_active is_plain is_escaped has_single has_double fill_context trim_context literal_run begins_unit unit_starts name_run digit_run idle param_at long_param_at head_at behind_two dollar_param dollar_head dollar_sum subst_next sum_next brace_next closed_next filling_next delimiter_from delimiter_at body_from body_at bodies_at begins_name continues_name sum_run next_piece nodes_in nodes_from stop_from front_in place.front
+unfolding parse read vals vals_twice sh run_step holds quoted_run front token is_token code semi_at and_at pipe_at here_at less_at great_at key_text is_key here_next copy_next redirect_next name_next simple_next compound_next command_next pipeline_next name_at assign_at assign_next function_next tilde_at tilde_next is_literal clear comment_end gap is_special_param expands is_meta is_active is_plain is_escaped has_single has_double fill_context trim_context literal_run begins_unit unit_starts name_run digit_run idle param_at long_param_at head_at behind_two dollar_param dollar_head dollar_sum subst_next sum_next brace_next closed_next filling_next delimiter_from delimiter_at delimiter_for body_from body_at bodies_at begins_name continues_name sum_run next_piece nodes_in nodes_from stop_from front_in place.front
 whole_texts_read = refl
 
 -- where the pieces of a text stop
@@ -172,5 +172,5 @@ wrong_texts =
     (codes "a <<E\nx\n", 0) ∷ []
 
 wrong_texts_stop : map {B = Option Script × ℕ} (λ r. (script_of r.0, place_of r.0)) wrong_texts ≡ map {B = Option Script × ℕ} (λ r. (None, r.1)) wrong_texts
-unfolding parse read vals vals_twice sh run_step holds quoted_run front token is_token code semi_at and_at pipe_at here_at less_at great_at key_text is_key here_next copy_next redirect_next name_next simple_next compound_next command_next pipeline_next name_at assign_at assign_next function_next tilde_at tilde_next is_literal clear comment_end gap is_special_param expands is_meta is_active is_plain is_escaped has_single has_double fill_context trim_context literal_run begins_unit unit_starts name_run digit_run idle param_at long_param_at head_at behind_two dollar_param dollar_head dollar_sum subst_next sum_next brace_next closed_next filling_next delimiter_from delimiter_at body_from body_at bodies_at begins_name continues_name sum_run next_piece nodes_in nodes_from stop_from front_in place.front
+unfolding parse read vals vals_twice sh run_step holds quoted_run front token is_token code semi_at and_at pipe_at here_at less_at great_at key_text is_key here_next copy_next redirect_next name_next simple_next compound_next command_next pipeline_next name_at assign_at assign_next function_next tilde_at tilde_next is_literal clear comment_end gap is_special_param expands is_meta is_active is_plain is_escaped has_single has_double fill_context trim_context literal_run begins_unit unit_starts name_run digit_run idle param_at long_param_at head_at behind_two dollar_param dollar_head dollar_sum subst_next sum_next brace_next closed_next filling_next delimiter_from delimiter_at delimiter_for body_from body_at bodies_at begins_name continues_name sum_run next_piece nodes_in nodes_from stop_from front_in place.front
 wrong_texts_stop = refl

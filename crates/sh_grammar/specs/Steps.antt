@@ -6,7 +6,7 @@ use Rattle.sh_grammar.specs.Shape.{Parts, no_part, part, plain, exact as exact_p
 use Rattle.sh_grammar.specs.Bytes.{Text, clear, gap, starts, literal_run, unit_starts, has_single, has_double, is_escaped, expands, is_bare_dollar, in_word}
 use Rattle.sh_grammar.specs.Tokens.{Op, End, Newline, Semi, AndIf, OrIf, Less, Great, DGreat, DLess, DLessDash, LessAnd, Open, Word, Key, Esac, token, is_token, bare, is_whole, is_key, here_next, copy_next, redirect_next, simple_next, compound_next, pipeline_next, name_at, assign_at, assign_next, function_next, tilde_at, tilde_next}
 use Rattle.sh_grammar.specs.Expansions.{◌>>=◌, Head, closed as closed_head, filling, trimming, dollar_param, dollar_head, behind_two, dollar_sum, subst_next, sum_next, brace_next, closed_next, filling_next}
-use Rattle.sh_grammar.specs.Bodies.{Owed, delimiter_at, bodies_at}
+use Rattle.sh_grammar.specs.Bodies.{Owed, delimiter_for, bodies_at}
 use Rattle.sh_grammar.specs.State.{State, move, Node, text_node, digit_node, part_node, head_node, expr_node, op_node, aimed_node}
 use Rattle.sh_grammar.specs.Sums.{sum_run, with_bytes, with_operand, no_sum, innermost, without_innermost}
 use Rattle.sh_grammar.specs.Table.{Step, op, key, line, ends, name, assign_name, descriptor, file_op, here, copy, to_word, tilde, literal, escaped, exact, quote, dollar, closed, open_head, open_subst, close_brace, open_sum, sum_bytes, operand, sum_open, sum_close, close_sum, enter, leave, Test, next, key_next, separates, goes_on, links, pipeline_begins, compound_begins, function_begins, simple_begins, assign_begins, redirect_begins, here_begins, copy_begins, prefix_begins, suffix_begins, item_begins, tilde_begins, unit_begins, single_begins, double_begins, escape_begins, expansion_begins, subst_begins, brace_begins, closed_begins, filling_begins, sum_begins, sum_goes_on, sum_opens}
@@ -65,7 +65,7 @@ here_node k s false = expanded_parts k s.depth (nth k.bodies s.named) >>= λ ps.
 
 -- behind the operator
 abbrev pub here_after : Known → State → Bool → Text → Read
-here_after k s strips bytes = word_place bytes >>= λ place. delimiter_at place >>= λ d. here_node k s d.0.1 >>= λ x.
+here_after k s strips bytes = word_place bytes >>= λ place. delimiter_for strips place >>= λ d. here_node k s d.0.1 >>= λ x.
     Some (said x, record s { bytes = d.1; owed = s.owed ++ record { delimiter = d.0.0; literal = d.0.1; strips = strips } ∷ []; named = suc s.named })
 
 abbrev pub here_read : Known → State → Op × Text → Read
