@@ -56,6 +56,19 @@ fn assign_text(op: Option<BinOp>) -> &'static [u8] {
     }
 }
 
+/// Shows an operand with these texts before it and behind it.
+fn show_operand(
+    alloc: Global,
+    before: &[u8],
+    e: &Expr,
+    behind: &[u8],
+    out: &mut Text,
+) -> Result<(), Memory> {
+    out.append(before)?;
+    show(alloc, e, out)?;
+    out.append(behind)
+}
+
 fn show(alloc: Global, e: &Expr, out: &mut Text) -> Result<(), Memory> {
     match e {
         Expr::Constant(n) => out.append(format!(in alloc; "{n}")?.as_bytes()),
@@ -63,64 +76,35 @@ fn show(alloc: Global, e: &Expr, out: &mut Text) -> Result<(), Memory> {
         Expr::Name(name) => out.append(name.bytes()),
         Expr::Member(name, index) => {
             out.append(name.bytes())?;
-            out.append(b"[")?;
-            show(alloc, index.get(), out)?;
-            out.append(b"]")
+            show_operand(alloc, b"[", index.get(), b"]", out)
         }
-        Expr::Unary(op, a) => {
-            out.append(unary_text(*op))?;
-            show(alloc, a.get(), out)?;
-            out.append(b")")
-        }
-        Expr::Step(op, a) => {
-            out.append(step_text(*op))?;
-            show(alloc, a.get(), out)?;
-            out.append(b")")
-        }
+        Expr::Unary(op, a) => show_operand(alloc, unary_text(*op), a.get(), b")", out),
+        Expr::Step(op, a) => show_operand(alloc, step_text(*op), a.get(), b")", out),
         Expr::Binary(op, a, b) => {
-            out.append(binary_text(*op))?;
-            show(alloc, a.get(), out)?;
-            out.append(b" ")?;
-            show(alloc, b.get(), out)?;
-            out.append(b")")
+            show_operand(alloc, binary_text(*op), a.get(), b" ", out)?;
+            show_operand(alloc, b"", b.get(), b")", out)
         }
         Expr::And(a, b) => {
-            out.append(b"(&& ")?;
-            show(alloc, a.get(), out)?;
-            out.append(b" ")?;
-            show(alloc, b.get(), out)?;
-            out.append(b")")
+            show_operand(alloc, b"(&& ", a.get(), b" ", out)?;
+            show_operand(alloc, b"", b.get(), b")", out)
         }
         Expr::Or(a, b) => {
-            out.append(b"(|| ")?;
-            show(alloc, a.get(), out)?;
-            out.append(b" ")?;
-            show(alloc, b.get(), out)?;
-            out.append(b")")
+            show_operand(alloc, b"(|| ", a.get(), b" ", out)?;
+            show_operand(alloc, b"", b.get(), b")", out)
         }
         Expr::Comma(a, b) => {
-            out.append(b"(, ")?;
-            show(alloc, a.get(), out)?;
-            out.append(b" ")?;
-            show(alloc, b.get(), out)?;
-            out.append(b")")
+            show_operand(alloc, b"(, ", a.get(), b" ", out)?;
+            show_operand(alloc, b"", b.get(), b")", out)
         }
         Expr::Assign(target, op, value) => {
             out.append(b"set")?;
-            out.append(assign_text(*op))?;
-            show(alloc, target.get(), out)?;
-            out.append(b" ")?;
-            show(alloc, value.get(), out)?;
-            out.append(b")")
+            show_operand(alloc, assign_text(*op), target.get(), b" ", out)?;
+            show_operand(alloc, b"", value.get(), b")", out)
         }
         Expr::Choose(a, b, c) => {
-            out.append(b"(? ")?;
-            show(alloc, a.get(), out)?;
-            out.append(b" ")?;
-            show(alloc, b.get(), out)?;
-            out.append(b" ")?;
-            show(alloc, c.get(), out)?;
-            out.append(b")")
+            show_operand(alloc, b"(? ", a.get(), b" ", out)?;
+            show_operand(alloc, b"", b.get(), b" ", out)?;
+            show_operand(alloc, b"", c.get(), b")", out)
         }
     }
 }
@@ -257,8 +241,8 @@ fn loose_operators_group(rt: HostRuntime) -> Result<(), Fail> {
 }
 
 #[test]
-fn tight_operators_group(rt: HostRuntime) -> Result<(), Fail> {
-    let table: [(&[u8], &[u8]); 38] = [
+fn comparisons_group(rt: HostRuntime) -> Result<(), Fail> {
+    let table: [(&[u8], &[u8]); 11] = [
         (b"a&b==c", b"(& a (== b c))"),
         (b"a==b&c", b"(& (== a b) c)"),
         (b"a&b!=c", b"(& a (!= b c))"),
@@ -270,6 +254,16 @@ fn tight_operators_group(rt: HostRuntime) -> Result<(), Fail> {
         (b"a<=b!=c", b"(!= (<= a b) c)"),
         (b"a<b<=c", b"(<= (< a b) c)"),
         (b"a>b>=c", b"(>= (> a b) c)"),
+    ];
+    for (text, tree) in table {
+        reads(&rt, text, tree)?;
+    }
+    Ok(())
+}
+
+#[test]
+fn shifts_group(rt: HostRuntime) -> Result<(), Fail> {
+    let table: [(&[u8], &[u8]); 11] = [
         (b"a<b<<c", b"(< a (<< b c))"),
         (b"a<<b<c", b"(< (<< a b) c)"),
         (b"a>=b>>c", b"(>= a (>> b c))"),
@@ -281,6 +275,16 @@ fn tight_operators_group(rt: HostRuntime) -> Result<(), Fail> {
         (b"a+b<<c", b"(<< (+ a b) c)"),
         (b"a>>b-c", b"(>> a (- b c))"),
         (b"a-b>>c", b"(>> (- a b) c)"),
+    ];
+    for (text, tree) in table {
+        reads(&rt, text, tree)?;
+    }
+    Ok(())
+}
+
+#[test]
+fn sums_and_products_group(rt: HostRuntime) -> Result<(), Fail> {
+    let table: [(&[u8], &[u8]); 8] = [
         (b"a-b+c", b"(+ (- a b) c)"),
         (b"a+b*c", b"(+ a (* b c))"),
         (b"a*b+c", b"(+ (* a b) c)"),
@@ -289,6 +293,16 @@ fn tight_operators_group(rt: HostRuntime) -> Result<(), Fail> {
         (b"a-b%c", b"(- a (% b c))"),
         (b"a%b-c", b"(- (% a b) c)"),
         (b"a*b/c%d", b"(% (/ (* a b) c) d)"),
+    ];
+    for (text, tree) in table {
+        reads(&rt, text, tree)?;
+    }
+    Ok(())
+}
+
+#[test]
+fn powers_and_parentheses_group(rt: HostRuntime) -> Result<(), Fail> {
+    let table: [(&[u8], &[u8]); 8] = [
         (b"a*b**c", b"(* a (** b c))"),
         (b"a**b*c", b"(* (** a b) c)"),
         (b"a/b**c", b"(/ a (** b c))"),

@@ -8,7 +8,7 @@ use std::test::Fail;
 
 #[test]
 fn echo_words(rt: HostRuntime) -> Result<(), Fail> {
-    let table: [(&[u8], &[u8]); 61] = [
+    let table: [(&[u8], &[u8]); 7] = [
         (b"", b"\n"),
         (b",a", b"a\n"),
         (b",a,b", b"a b\n"),
@@ -16,6 +16,18 @@ fn echo_words(rt: HostRuntime) -> Result<(), Fail> {
         (b",", b"\n"),
         (b",,", b" \n"),
         (b",a,", b"a \n"),
+    ];
+    for (arguments, text) in table {
+        let list = list_of(rt.alloc(), arguments)?;
+        let printed = Text::copy(rt.alloc(), text)?;
+        assert_eq!(rt; echo_text(rt.alloc(), &list), Ok(printed));
+    }
+    Ok(())
+}
+
+#[test]
+fn echo_options(rt: HostRuntime) -> Result<(), Fail> {
+    let table: [(&[u8], &[u8]); 13] = [
         (b",-n", b""),
         (b",-n,a", b"a"),
         (b",-n,-n,a", b"a"),
@@ -29,6 +41,18 @@ fn echo_words(rt: HostRuntime) -> Result<(), Fail> {
         (b",-E,-e,a\\n", b"a\n\n"),
         (b",-neE,x\\n", b"x\\n"),
         (b",-nE,-e,x\\ny", b"x\ny"),
+    ];
+    for (arguments, text) in table {
+        let list = list_of(rt.alloc(), arguments)?;
+        let printed = Text::copy(rt.alloc(), text)?;
+        assert_eq!(rt; echo_text(rt.alloc(), &list), Ok(printed));
+    }
+    Ok(())
+}
+
+#[test]
+fn echo_words_that_are_no_options(rt: HostRuntime) -> Result<(), Fail> {
+    let table: [(&[u8], &[u8]); 10] = [
         (b",-", b"-\n"),
         (b",--", b"--\n"),
         (b",-,-n", b"- -n\n"),
@@ -39,6 +63,18 @@ fn echo_words(rt: HostRuntime) -> Result<(), Fail> {
         (b",-nx,a", b"-nx a\n"),
         (b",-ne,-z,a\\n", b"-z a\n"),
         (b",-n,,a", b" a"),
+    ];
+    for (arguments, text) in table {
+        let list = list_of(rt.alloc(), arguments)?;
+        let printed = Text::copy(rt.alloc(), text)?;
+        assert_eq!(rt; echo_text(rt.alloc(), &list), Ok(printed));
+    }
+    Ok(())
+}
+
+#[test]
+fn echo_escapes(rt: HostRuntime) -> Result<(), Fail> {
+    let table: [(&[u8], &[u8]); 13] = [
         (b",-e,\\\\", b"\\\n"),
         (b",-e,\\a\\b\\f\\n\\r\\t\\v", b"\x07\x08\x0c\n\r\t\x0b\n"),
         (b",-e,\\e[0m\\E", b"\x1b[0m\x1b\n"),
@@ -52,14 +88,50 @@ fn echo_words(rt: HostRuntime) -> Result<(), Fail> {
         (b",-e,\\x4g", b"\x04g\n"),
         (b",-e,\\x414", b"A4\n"),
         (b",-e,\\xfF", b"\xff\n"),
+    ];
+    for (arguments, text) in table {
+        let list = list_of(rt.alloc(), arguments)?;
+        let printed = Text::copy(rt.alloc(), text)?;
+        assert_eq!(rt; echo_text(rt.alloc(), &list), Ok(printed));
+    }
+    Ok(())
+}
+
+#[test]
+fn echo_backslashes_that_are_printed(rt: HostRuntime) -> Result<(), Fail> {
+    let table: [(&[u8], &[u8]); 5] = [
         (b",-e,\\q\\z", b"\\q\\z\n"),
         (b",-e,\\8\\9", b"\\8\\9\n"),
         (b",-e,a\\", b"a\\\n"),
         (b",-e,a\\,b", b"a\\ b\n"),
         (b",-e,\\\\n", b"\\n\n"),
+    ];
+    for (arguments, text) in table {
+        let list = list_of(rt.alloc(), arguments)?;
+        let printed = Text::copy(rt.alloc(), text)?;
+        assert_eq!(rt; echo_text(rt.alloc(), &list), Ok(printed));
+    }
+    Ok(())
+}
+
+#[test]
+fn echo_cuts(rt: HostRuntime) -> Result<(), Fail> {
+    let table: [(&[u8], &[u8]); 3] = [
         (b",-e,a\\cb,c", b"a"),
         (b",-e,\\c", b""),
         (b",-e,a,b\\c,\\u", b"a b"),
+    ];
+    for (arguments, text) in table {
+        let list = list_of(rt.alloc(), arguments)?;
+        let printed = Text::copy(rt.alloc(), text)?;
+        assert_eq!(rt; echo_text(rt.alloc(), &list), Ok(printed));
+    }
+    Ok(())
+}
+
+#[test]
+fn echo_options_and_escapes_together(rt: HostRuntime) -> Result<(), Fail> {
+    let table: [(&[u8], &[u8]); 10] = [
         (b",-en,a\\tb", b"a\tb"),
         (b",-e,\\\"", b"\\\"\n"),
         (b",-e,a  b,c\\nd", b"a  b c\nd\n"),

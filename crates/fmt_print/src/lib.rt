@@ -30,4 +30,6 @@ pub struct Printed {
 #[cfg(test)]
 mod echo_tests;
 #[cfg(test)]
+mod refusal_tests;
+#[cfg(test)]
 mod tests;

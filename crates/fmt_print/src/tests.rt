@@ -33,7 +33,7 @@ fn prints(
 }
 
 /// Whether the bytes are a format, by one byte after another.
-fn is_format(fmt: &[u8]) -> bool {
+pub fn is_format(fmt: &[u8]) -> bool {
     let mut check = FormatCheck::new();
     for byte in fmt {
         check.step(*byte);
@@ -41,20 +41,9 @@ fn is_format(fmt: &[u8]) -> bool {
     check.is_format()
 }
 
-fn refuses(
-    rt: &(impl Abort + AllocGlobal),
-    fmt: &[u8],
-    arguments: &[u8],
-    fault: FmtFault,
-) -> Result<(), Memory> {
-    let list = list_of(rt.alloc(), arguments)?;
-    assert_eq!(rt; format(rt.alloc(), fmt, &list), Err(fault));
-    Ok(())
-}
-
 #[test]
-fn printf_signed_numbers(rt: HostRuntime) -> Result<(), Fail> {
-    let table: [(&[u8], &[u8], &[u8]); 63] = [
+fn printf_signed_numbers_with_flags_and_widths(rt: HostRuntime) -> Result<(), Fail> {
+    let table: [(&[u8], &[u8], &[u8]); 13] = [
         (b"%d", b",42", b"42"),
         (b"%i", b",42", b"42"),
         (b"%5d", b",42", b"   42"),
@@ -68,6 +57,16 @@ fn printf_signed_numbers(rt: HostRuntime) -> Result<(), Fail> {
         (b"%0-5d|", b",42", b"42   |"),
         (b"%+05d", b",42", b"+0042"),
         (b"% 05d", b",42", b" 0042"),
+    ];
+    for (fmt, arguments, text) in table {
+        prints(&rt, fmt, arguments, text, false)?;
+    }
+    Ok(())
+}
+
+#[test]
+fn printf_signed_numbers_with_precisions(rt: HostRuntime) -> Result<(), Fail> {
+    let table: [(&[u8], &[u8], &[u8]); 14] = [
         (b"%.3d", b",42", b"042"),
         (b"%8.3d", b",42", b"     042"),
         (b"%-8.3d|", b",42", b"042     |"),
@@ -82,6 +81,16 @@ fn printf_signed_numbers(rt: HostRuntime) -> Result<(), Fail> {
         (b"%5.0d", b",0", b"     "),
         (b"%1d", b",42", b"42"),
         (b"%00005d", b",42", b"00042"),
+    ];
+    for (fmt, arguments, text) in table {
+        prints(&rt, fmt, arguments, text, false)?;
+    }
+    Ok(())
+}
+
+#[test]
+fn printf_negative_numbers(rt: HostRuntime) -> Result<(), Fail> {
+    let table: [(&[u8], &[u8], &[u8]); 9] = [
         (b"%d", b",-42", b"-42"),
         (b"%5d", b",-42", b"  -42"),
         (b"%05d", b",-42", b"-0042"),
@@ -91,6 +100,16 @@ fn printf_signed_numbers(rt: HostRuntime) -> Result<(), Fail> {
         (b"%08.3d", b",-42", b"    -042"),
         (b"%-6d|", b",-42", b"-42   |"),
         (b"%i", b",-42", b"-42"),
+    ];
+    for (fmt, arguments, text) in table {
+        prints(&rt, fmt, arguments, text, false)?;
+    }
+    Ok(())
+}
+
+#[test]
+fn printf_signed_constants(rt: HostRuntime) -> Result<(), Fail> {
+    let table: [(&[u8], &[u8], &[u8]); 14] = [
         (b"%d", b",0", b"0"),
         (b"%d", b",-0", b"0"),
         (b"%d", b",+7", b"7"),
@@ -105,15 +124,45 @@ fn printf_signed_numbers(rt: HostRuntime) -> Result<(), Fail> {
         (b"%d", b",-0x8000000000000000", b"-9223372036854775808"),
         (b"%d", b",0777777777777777777777", b"9223372036854775807"),
         (b"%d", b",00", b"0"),
+    ];
+    for (fmt, arguments, text) in table {
+        prints(&rt, fmt, arguments, text, false)?;
+    }
+    Ok(())
+}
+
+#[test]
+fn printf_zero_with_a_sign(rt: HostRuntime) -> Result<(), Fail> {
+    let table: [(&[u8], &[u8], &[u8]); 3] = [
         (b"%+.0d", b",0", b"+"),
         (b"% .0d", b",0", b" "),
         (b"%+d", b",0", b"+0"),
+    ];
+    for (fmt, arguments, text) in table {
+        prints(&rt, fmt, arguments, text, false)?;
+    }
+    Ok(())
+}
+
+#[test]
+fn printf_i_is_as_d(rt: HostRuntime) -> Result<(), Fail> {
+    let table: [(&[u8], &[u8], &[u8]); 6] = [
         (b"%-5i|", b",42", b"42   |"),
         (b"%05i", b",42", b"00042"),
         (b"%+i", b",42", b"+42"),
         (b"% i", b",42", b" 42"),
         (b"%-+ 06i|", b",42", b"+42   |"),
         (b"%.0i", b",0", b""),
+    ];
+    for (fmt, arguments, text) in table {
+        prints(&rt, fmt, arguments, text, false)?;
+    }
+    Ok(())
+}
+
+#[test]
+fn printf_flags_and_widths_that_change_nothing(rt: HostRuntime) -> Result<(), Fail> {
+    let table: [(&[u8], &[u8], &[u8]); 4] = [
         (b"%0d", b",42", b"42"),
         (b"%-0d|", b",42", b"42|"),
         (b"%--5d|", b",42", b"42   |"),
@@ -126,8 +175,8 @@ fn printf_signed_numbers(rt: HostRuntime) -> Result<(), Fail> {
 }
 
 #[test]
-fn printf_unsigned_numbers(rt: HostRuntime) -> Result<(), Fail> {
-    let table: [(&[u8], &[u8], &[u8]); 60] = [
+fn printf_decimal_numbers_without_sign(rt: HostRuntime) -> Result<(), Fail> {
+    let table: [(&[u8], &[u8], &[u8]); 14] = [
         (b"%u", b",43981", b"43981"),
         (b"%8u", b",43981", b"   43981"),
         (b"%-8u|", b",43981", b"43981   |"),
@@ -142,6 +191,16 @@ fn printf_unsigned_numbers(rt: HostRuntime) -> Result<(), Fail> {
         (b"%u", b",-9223372036854775808", b"9223372036854775808"),
         (b"%u", b",0", b"0"),
         (b"%5u", b",-0", b"    0"),
+    ];
+    for (fmt, arguments, text) in table {
+        prints(&rt, fmt, arguments, text, false)?;
+    }
+    Ok(())
+}
+
+#[test]
+fn printf_octal_numbers(rt: HostRuntime) -> Result<(), Fail> {
+    let table: [(&[u8], &[u8], &[u8]); 14] = [
         (b"%o", b",43981", b"125715"),
         (b"%8o", b",43981", b"  125715"),
         (b"%-8o|", b",43981", b"125715  |"),
@@ -156,6 +215,16 @@ fn printf_unsigned_numbers(rt: HostRuntime) -> Result<(), Fail> {
         (b"%o", b",-9223372036854775808", b"1000000000000000000000"),
         (b"%o", b",0", b"0"),
         (b"%5o", b",-0", b"    0"),
+    ];
+    for (fmt, arguments, text) in table {
+        prints(&rt, fmt, arguments, text, false)?;
+    }
+    Ok(())
+}
+
+#[test]
+fn printf_hexadecimal_numbers(rt: HostRuntime) -> Result<(), Fail> {
+    let table: [(&[u8], &[u8], &[u8]); 14] = [
         (b"%x", b",43981", b"abcd"),
         (b"%8x", b",43981", b"    abcd"),
         (b"%-8x|", b",43981", b"abcd    |"),
@@ -170,6 +239,16 @@ fn printf_unsigned_numbers(rt: HostRuntime) -> Result<(), Fail> {
         (b"%x", b",-9223372036854775808", b"8000000000000000"),
         (b"%x", b",0", b"0"),
         (b"%5x", b",-0", b"    0"),
+    ];
+    for (fmt, arguments, text) in table {
+        prints(&rt, fmt, arguments, text, false)?;
+    }
+    Ok(())
+}
+
+#[test]
+fn printf_hexadecimal_numbers_in_capitals(rt: HostRuntime) -> Result<(), Fail> {
+    let table: [(&[u8], &[u8], &[u8]); 14] = [
         (b"%X", b",43981", b"ABCD"),
         (b"%8X", b",43981", b"    ABCD"),
         (b"%-8X|", b",43981", b"ABCD    |"),
@@ -184,6 +263,16 @@ fn printf_unsigned_numbers(rt: HostRuntime) -> Result<(), Fail> {
         (b"%X", b",-9223372036854775808", b"8000000000000000"),
         (b"%X", b",0", b"0"),
         (b"%5X", b",-0", b"    0"),
+    ];
+    for (fmt, arguments, text) in table {
+        prints(&rt, fmt, arguments, text, false)?;
+    }
+    Ok(())
+}
+
+#[test]
+fn printf_unsigned_numbers_in_fields(rt: HostRuntime) -> Result<(), Fail> {
+    let table: [(&[u8], &[u8], &[u8]); 4] = [
         (b"%0u", b",7", b"7"),
         (b"%5.0x", b",0", b"     "),
         (b"%-5.3o|", b",8", b"010  |"),
@@ -197,7 +286,7 @@ fn printf_unsigned_numbers(rt: HostRuntime) -> Result<(), Fail> {
 
 #[test]
 fn printf_texts(rt: HostRuntime) -> Result<(), Fail> {
-    let table: [(&[u8], &[u8], &[u8]); 33] = [
+    let table: [(&[u8], &[u8], &[u8]); 18] = [
         (b"%s", b",abc", b"abc"),
         (b"%5s", b",abc", b"  abc"),
         (b"%-5s|", b",abc", b"abc  |"),
@@ -216,6 +305,16 @@ fn printf_texts(rt: HostRuntime) -> Result<(), Fail> {
         (b"%s", b",a b", b"a b"),
         (b"%s", b",\\n%d", b"\\n%d"),
         (b"%s", b",-x", b"-x"),
+    ];
+    for (fmt, arguments, text) in table {
+        prints(&rt, fmt, arguments, text, false)?;
+    }
+    Ok(())
+}
+
+#[test]
+fn printf_formats_that_take_no_argument(rt: HostRuntime) -> Result<(), Fail> {
+    let table: [(&[u8], &[u8], &[u8]); 15] = [
         (b"", b"", b""),
         (b"abc", b"", b"abc"),
         (b"%%", b"", b"%"),
@@ -310,120 +409,6 @@ fn printf_cuts(rt: HostRuntime) -> Result<(), Fail> {
     ];
     for (fmt, arguments, text) in table {
         prints(&rt, fmt, arguments, text, true)?;
-    }
-    Ok(())
-}
-
-#[test]
-fn bad_formats_are_refused_at_their_place(rt: HostRuntime) -> Result<(), Fail> {
-    let table: [(&[u8], usize); 47] = [
-        (b"-x", 0),
-        (b"-", 0),
-        (b"--", 0),
-        (b"-%d", 0),
-        (b"%", 0),
-        (b"a%", 1),
-        (b"%5", 0),
-        (b"%.", 0),
-        (b"ab%q", 2),
-        (b"%+u", 0),
-        (b"%+s", 0),
-        (b"% x", 0),
-        (b"% o", 0),
-        (b"%+X", 0),
-        (b"%0s", 0),
-        (b"%05s", 0),
-        (b"%-0s", 0),
-        (b"%5b", 0),
-        (b"%-b", 0),
-        (b"%.1b", 0),
-        (b"%10000d", 0),
-        (b"%.10000d", 0),
-        (b"%99999999999999999999d", 0),
-        (b"%d%z", 2),
-        (b"\\", 0),
-        (b"a\\", 1),
-        (b"\\q", 0),
-        (b"\\c", 0),
-        (b"\\e", 0),
-        (b"\\x41", 0),
-        (b"\\400", 0),
-        (b"\\777", 0),
-        (b"\\8", 0),
-        (b"%5%", 0),
-        (b"%ld", 0),
-        (b"%#x", 0),
-        (b"%*d", 0),
-        (b"%'d", 0),
-        (b"%.-3d", 0),
-        (b"%5-d", 0),
-        (b"%c", 0),
-        (b"%f", 0),
-        (b"%1$d", 0),
-        (b"%%%", 2),
-        (b"a\\nb%", 4),
-        (b"%d\\12\\q", 5),
-        (b"\\1234\\400", 5),
-    ];
-    for (fmt, at) in table {
-        refuses(&rt, fmt, b",x,\\", FmtFault::BadFormat(at))?;
-        assert!(rt; !is_format(fmt), "{fmt:?}");
-    }
-    Ok(())
-}
-
-#[test]
-fn what_is_no_number_is_refused(rt: HostRuntime) -> Result<(), Fail> {
-    let table: [(&[u8], &[u8], usize); 25] = [
-        (b"%d", b",", 0),
-        (b"%d", b",a", 0),
-        (b"%i", b",1x", 0),
-        (b"%u", b",0x", 0),
-        (b"%o", b",08", 0),
-        (b"%x", b",0b1", 0),
-        (b"%d", b",1 ", 0),
-        (b"%d", b", 1", 0),
-        (b"%d", b",'a", 0),
-        (b"%d", b",9223372036854775808", 0),
-        (b"%d", b",-9223372036854775809", 0),
-        (b"%u", b",0x8000000000000000", 0),
-        (b"%X", b",18446744073709551616", 0),
-        (b"%d", b",99999999999999999999999999", 0),
-        (b"%d", b",--1", 0),
-        (b"%d", b",+", 0),
-        (b"%d", b",-", 0),
-        (b"%d", b",+-1", 0),
-        (b"%d", b",1.0", 0),
-        (b"%d", b",0xg", 0),
-        (b"%d", b",01777777777777777777777", 0),
-        (b"%s %d", b",a,b", 1),
-        (b"%d", b",1,2,x", 2),
-        (b"%s%d\\n", b",1,2,3,4,5,z,7,w", 5),
-        (b"%d%b", b",x,\\", 0),
-    ];
-    for (fmt, arguments, k) in table {
-        refuses(&rt, fmt, arguments, FmtFault::BadNumber(k))?;
-    }
-    Ok(())
-}
-
-#[test]
-fn bad_escapes_are_refused(rt: HostRuntime) -> Result<(), Fail> {
-    let table: [(&[u8], &[u8], usize); 11] = [
-        (b"%b", b",\\q", 0),
-        (b"%b", b",\\", 0),
-        (b"%b", b",a\\1", 0),
-        (b"%b", b",\\0400", 0),
-        (b"%b", b",\\0777", 0),
-        (b"%b", b",\\e", 0),
-        (b"%b", b",\\x41", 0),
-        (b"%b", b",\\u0041", 0),
-        (b"%s%b", b",a,\\", 1),
-        (b"%b", b",a,b\\q\\c", 1),
-        (b"%b%d", b",\\8,x", 0),
-    ];
-    for (fmt, arguments, k) in table {
-        refuses(&rt, fmt, arguments, FmtFault::BadEscape(k))?;
     }
     Ok(())
 }

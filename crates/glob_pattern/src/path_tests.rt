@@ -29,22 +29,13 @@ fn paths_for(alloc: Global, row: &[u8], names: &[&[u8]]) -> Result<Text, Pattern
     Ok(shown)
 }
 
+/// The files and directories in which paths are found.
+const NAMES: [&[u8]; 12] = [
+    b".h", b"/r", b"/r/a", b"d", b"d/.b", b"d/a", b"d/c", b"d/s", b"d/s/x", b"d.x", b"d.x/a", b"e",
+];
+
 #[test]
-fn paths_are_found(rt: HostRuntime) -> Result<(), Fail> {
-    let names = [
-        b".h".as_slice(),
-        b"/r",
-        b"/r/a",
-        b"d",
-        b"d/.b",
-        b"d/a",
-        b"d/c",
-        b"d/s",
-        b"d/s/x",
-        b"d.x",
-        b"d.x/a",
-        b"e",
-    ];
+fn paths_of_one_folder_are_found(rt: HostRuntime) -> Result<(), Fail> {
     for (row, want) in [
         (b"*".as_slice(), b"d d.x e ".as_slice()),
         (b".*", b".h "),
@@ -52,7 +43,20 @@ fn paths_are_found(rt: HostRuntime) -> Result<(), Fail> {
         (b"d/*", b"d/a d/c d/s "),
         (b"d/.*", b"d/.b "),
         (b"d/[ac]", b"d/a d/c "),
-        (b"*/", b"d.x/ d/ "),
+    ] {
+        assert_eq!(rt;
+            paths_for(rt.alloc(), row, NAMES.as_slice())?.bytes(),
+            want,
+            "{row:?}"
+        );
+    }
+    Ok(())
+}
+
+#[test]
+fn paths_through_folders_are_found(rt: HostRuntime) -> Result<(), Fail> {
+    for (row, want) in [
+        (b"*/".as_slice(), b"d.x/ d/ ".as_slice()),
         (b"*/*", b"d.x/a d/a d/c d/s "),
         (b"*//a", b"d.x//a d//a "),
         (b"./*", b"./d ./d.x ./e "),
@@ -64,7 +68,7 @@ fn paths_are_found(rt: HostRuntime) -> Result<(), Fail> {
         (b"d/*/x", b"d/s/x "),
     ] {
         assert_eq!(rt;
-            paths_for(rt.alloc(), row, names.as_slice())?.bytes(),
+            paths_for(rt.alloc(), row, NAMES.as_slice())?.bytes(),
             want,
             "{row:?}"
         );

@@ -300,13 +300,22 @@ fn doubt(alloc: Global, row: &[u8]) -> Result<Option<usize>, PatternFault> {
 }
 
 #[test]
-fn doubtful_places(rt: HostRuntime) -> Result<(), Fail> {
+fn backslashes_of_values_are_doubtful(rt: HostRuntime) -> Result<(), Fail> {
     for (row, want) in [
         (b"a*".as_slice(), None),
         (b"{\\}a", Some(0)),
         (b"a{\\}b", Some(1)),
         (b"'\\'", None),
-        (b"[[.a.]]", Some(1)),
+    ] {
+        assert_eq!(rt; doubt(rt.alloc(), row)?, want, "{row:?}");
+    }
+    Ok(())
+}
+
+#[test]
+fn classes_are_doubtful_by_their_names(rt: HostRuntime) -> Result<(), Fail> {
+    for (row, want) in [
+        (b"[[.a.]]".as_slice(), Some(1)),
         (b"[[=a=]]", Some(1)),
         (b"[[:foo:]]", Some(1)),
         (b"[[:foo_bar:]]", Some(1)),
@@ -317,20 +326,47 @@ fn doubtful_places(rt: HostRuntime) -> Result<(), Fail> {
         (b"[[::]]", None),
         (b"[[:a]b:]", None),
         (b"[a:]", None),
-        (b"[[:alpha:]-z]", Some(1)),
+    ] {
+        assert_eq!(rt; doubt(rt.alloc(), row)?, want, "{row:?}");
+    }
+    Ok(())
+}
+
+#[test]
+fn ranges_are_doubtful_by_their_ends(rt: HostRuntime) -> Result<(), Fail> {
+    for (row, want) in [
+        (b"[[:alpha:]-z]".as_slice(), Some(1)),
         (b"[a-[:alpha:]]", Some(1)),
         (b"[z-a]", Some(1)),
         (b"x[b-c][z-a]", Some(7)),
         (b"[a{\\}b]", Some(2)),
         (b"[A-{\\}]", Some(3)),
         (b"[z-{\\}]", Some(1)),
-        (b"[[.a", None),
+    ] {
+        assert_eq!(rt; doubt(rt.alloc(), row)?, want, "{row:?}");
+    }
+    Ok(())
+}
+
+#[test]
+fn doubtful_places_stand_in_closed_brackets(rt: HostRuntime) -> Result<(), Fail> {
+    for (row, want) in [
+        (b"[[.a".as_slice(), None),
         (b"[[:]", None),
         (b"[[:alpha]", None),
         (b"[z-a", None),
         (b"[[:foo:]-{\\}]", Some(1)),
         (b"''[z-a]", Some(2)),
-        (b"[a-a]", None),
+    ] {
+        assert_eq!(rt; doubt(rt.alloc(), row)?, want, "{row:?}");
+    }
+    Ok(())
+}
+
+#[test]
+fn brackets_that_resemble_doubtful_ones(rt: HostRuntime) -> Result<(), Fail> {
+    for (row, want) in [
+        (b"[a-a]".as_slice(), None),
         (b"[/]", None),
         (b"[a'[.'b]", None),
         (b"[.a.]", None),

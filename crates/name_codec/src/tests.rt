@@ -37,40 +37,59 @@ fn lists_are_encoded_and_decoded(rt: HostRuntime) -> Result<(), Fail> {
 }
 
 #[test]
-fn texts_of_no_list_are_refused(rt: HostRuntime) -> Result<(), Fail> {
-    let table: [&[u8]; 44] = [
-        b"03:a:b",
-        b"3:a:",
-        b":a",
-        b"1a:b",
-        b":",
-        b"::",
-        b"a",
-        b"0",
-        b"1",
-        b"1:",
-        b"2:a",
-        b"00:",
-        b"01:a",
-        b"0:a",
-        b"1:ab",
-        b"1:a ",
-        b" 1:a",
-        b"1 :a",
-        b"+1:a",
-        b"-1:a",
-        b"-0:",
-        b"+0:",
-        b"0x1:a",
-        b"1:a2:b",
-        b"1:a:",
-        b"1:a0",
-        b"1:a00:",
-        b"1;a",
-        b"\xb11:a",
+fn texts_without_whole_entries_are_refused(rt: HostRuntime) -> Result<(), Fail> {
+    let table: [&[u8]; 11] = [
+        b"03:a:b", b"3:a:", b":a", b"1a:b", b":", b"::", b"a", b"0", b"1", b"1:", b"2:a",
+    ];
+    for text in table {
+        assert_eq!(rt; decode(rt.alloc(), text)?, None, "{text:?}");
+    }
+    Ok(())
+}
+
+#[test]
+fn zeros_and_bytes_beside_an_entry_are_refused(rt: HostRuntime) -> Result<(), Fail> {
+    let table: [&[u8]; 7] = [b"00:", b"01:a", b"0:a", b"1:ab", b"1:a ", b" 1:a", b"1 :a"];
+    for text in table {
+        assert_eq!(rt; decode(rt.alloc(), text)?, None, "{text:?}");
+    }
+    Ok(())
+}
+
+#[test]
+fn signs_and_bases_of_lengths_are_refused(rt: HostRuntime) -> Result<(), Fail> {
+    let table: [&[u8]; 5] = [b"+1:a", b"-1:a", b"-0:", b"+0:", b"0x1:a"];
+    for text in table {
+        assert_eq!(rt; decode(rt.alloc(), text)?, None, "{text:?}");
+    }
+    Ok(())
+}
+
+#[test]
+fn broken_second_entries_and_other_bytes_are_refused(rt: HostRuntime) -> Result<(), Fail> {
+    let table: [&[u8]; 6] = [b"1:a2:b", b"1:a:", b"1:a0", b"1:a00:", b"1;a", b"\xb11:a"];
+    for text in table {
+        assert_eq!(rt; decode(rt.alloc(), text)?, None, "{text:?}");
+    }
+    Ok(())
+}
+
+#[test]
+fn lengths_past_the_text_are_refused(rt: HostRuntime) -> Result<(), Fail> {
+    let table: [&[u8]; 3] = [
         b"18446744073709551615:a",
         b"18446744073709551616:a",
         b"99999999999999999999999999999999999999:a",
+    ];
+    for text in table {
+        assert_eq!(rt; decode(rt.alloc(), text)?, None, "{text:?}");
+    }
+    Ok(())
+}
+
+#[test]
+fn texts_a_byte_off_are_refused(rt: HostRuntime) -> Result<(), Fail> {
+    let table: [&[u8]; 7] = [
         b"1:a\n",
         b"3:a:b0",
         b"3:a:b0:x",
@@ -78,6 +97,16 @@ fn texts_of_no_list_are_refused(rt: HostRuntime) -> Result<(), Fail> {
         b"10:012345678",
         b"10:0123456789a",
         b"010:0123456789",
+    ];
+    for text in table {
+        assert_eq!(rt; decode(rt.alloc(), text)?, None, "{text:?}");
+    }
+    Ok(())
+}
+
+#[test]
+fn other_numbers_and_zero_bytes_are_refused(rt: HostRuntime) -> Result<(), Fail> {
+    let table: [&[u8]; 5] = [
         b"1_0:0123456789",
         b"1.0:a",
         b"1e1:0123456789",

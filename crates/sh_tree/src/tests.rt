@@ -202,7 +202,7 @@ fn parts_that_run_together_are_not_printable(rt: HostRuntime) -> Result<(), Fail
 }
 
 #[test]
-fn parts_hold_their_own_bytes_alone(rt: HostRuntime) -> Result<(), Fail> {
+fn plain_parts_hold_plain_bytes_alone(rt: HostRuntime) -> Result<(), Fail> {
     let alloc = rt.alloc();
     for text in [
         b"".as_slice(),
@@ -218,18 +218,36 @@ fn parts_hold_their_own_bytes_alone(rt: HostRuntime) -> Result<(), Fail> {
             "{text:?}"
         );
     }
+    Ok(())
+}
+
+#[test]
+fn exact_parts_hold_no_quote_newline_or_zero(rt: HostRuntime) -> Result<(), Fail> {
+    let alloc = rt.alloc();
     for text in [b"it's".as_slice(), b"a\nb", b"a\0b"] {
         assert!(rt;
             !printable(&calls(alloc, one(alloc, exact(alloc, text)?)?)?),
             "{text:?}"
         );
     }
+    Ok(())
+}
+
+#[test]
+fn exact_parts_hold_other_bytes(rt: HostRuntime) -> Result<(), Fail> {
+    let alloc = rt.alloc();
     for text in [b"".as_slice(), b" ", b"\"$`\\!#~\xff"] {
         assert!(rt;
             printable(&calls(alloc, one(alloc, exact(alloc, text)?)?)?),
             "{text:?}"
         );
     }
+    Ok(())
+}
+
+#[test]
+fn double_quotes_hold_only_bytes_that_stand_for_themselves(rt: HostRuntime) -> Result<(), Fail> {
+    let alloc = rt.alloc();
     for text in [b"".as_slice(), b"\"", b"$", b"`", b"\\", b"\n", b"\0"] {
         let quoted = one(alloc, plain(alloc, text)?)?;
         assert!(rt;
@@ -237,6 +255,12 @@ fn parts_hold_their_own_bytes_alone(rt: HostRuntime) -> Result<(), Fail> {
             "{text:?}"
         );
     }
+    Ok(())
+}
+
+#[test]
+fn double_quotes_may_be_empty_and_expand_names_alone(rt: HostRuntime) -> Result<(), Fail> {
+    let alloc = rt.alloc();
     assert!(rt; printable(&calls(alloc, one(alloc, double(List::new(alloc)))?)?));
     for text in [b"".as_slice(), b"9", b"a-b"] {
         let quoted = one(alloc, param(alloc, text)?)?;
@@ -245,6 +269,12 @@ fn parts_hold_their_own_bytes_alone(rt: HostRuntime) -> Result<(), Fail> {
             "{text:?}"
         );
     }
+    Ok(())
+}
+
+#[test]
+fn expansions_are_quoted_and_quotes_are_not(rt: HostRuntime) -> Result<(), Fail> {
+    let alloc = rt.alloc();
     assert!(rt; !printable(&calls(alloc, one(alloc, param(alloc, b"n")?)?)?));
     let nested = one(alloc, exact(alloc, b"a")?)?;
     assert!(rt; !printable(&calls(alloc, one(alloc, double(nested))?)?));

@@ -96,34 +96,58 @@ fn names_have_letters_digits_and_underscores(rt: HostRuntime) {
 }
 
 #[test]
-fn shells_know_commands_and_variables(rt: HostRuntime) {
+fn builtins_are_known_commands(rt: HostRuntime) {
     for name in [b":".as_slice(), b"[", b"readonly", b"echo"] {
         assert!(rt; is_builtin(name) && is_known_command(name), "{name:?}");
     }
+}
+
+#[test]
+fn refused_builtins_are_known_commands(rt: HostRuntime) {
     for name in [b".".as_slice(), b"eval", b"wait"] {
         assert!(rt;
             is_refused_builtin(name) && is_known_command(name),
             "{name:?}"
         );
     }
+}
+
+#[test]
+fn standard_words_are_restricted_and_known(rt: HostRuntime) {
     for name in [b"if".as_slice(), b"!", b"esac"] {
         assert!(rt;
             is_standard_word(name) && is_restricted(name) && is_known_command(name),
             "{name:?}"
         );
     }
+}
+
+#[test]
+fn words_of_bash_are_restricted_and_known(rt: HostRuntime) {
     for name in [b"[[".as_slice(), b"time"] {
         assert!(rt;
             is_bash_word(name) && is_restricted(name) && is_known_command(name),
             "{name:?}"
         );
     }
+}
+
+#[test]
+fn other_restricted_names_are_known(rt: HostRuntime) {
     for name in [b"print".as_slice(), b"whence"] {
         assert!(rt; is_restricted(name) && is_known_command(name), "{name:?}");
     }
+}
+
+#[test]
+fn other_names_are_no_known_commands(rt: HostRuntime) {
     for name in [b"".as_slice(), b"show", b"IF", b"ech", b"echos"] {
         assert!(rt; !is_known_command(name), "{name:?}");
     }
+}
+
+#[test]
+fn special_names_are_known(rt: HostRuntime) {
     for name in [
         b"_".as_slice(),
         b"IFS",
@@ -138,6 +162,10 @@ fn shells_know_commands_and_variables(rt: HostRuntime) {
     ] {
         assert!(rt; is_special_name(name), "{name:?}");
     }
+}
+
+#[test]
+fn other_names_are_not_special(rt: HostRuntime) {
     for name in [
         b"".as_slice(),
         b"__",

@@ -58,8 +58,8 @@ fn deep_values_are_no_json(rt: HostRuntime) -> Result<(), Fail> {
 }
 
 #[test]
-fn unknown_members(rt: HostRuntime) -> Result<(), Fail> {
-    let table: [(&str, &str); 15] = [
+fn unknown_members_of_a_job(rt: HostRuntime) -> Result<(), Fail> {
+    let table: [(&str, &str); 8] = [
         ("{\"script\":\"\",\"scripts\":\"\"}", "/scripts"),
         ("{\"zz\":1,\"script\":1}", "/zz"),
         ("{\"zz\":1,\"b\":1,\"B\":1,\"script\":\"\"}", "/B"),
@@ -68,6 +68,19 @@ fn unknown_members(rt: HostRuntime) -> Result<(), Fail> {
         ("{\"\\u00e4\":1,\"script\":\"\"}", "/ä"),
         ("{\"\\u20ac\\n\":1,\"script\":\"\"}", "/€\n"),
         ("{\"\\ud83d\\ude00\":1,\"script\":\"\"}", "/😀"),
+    ];
+    for (job, pointer) in table {
+        assert!(rt;
+            is_refused(rt.alloc(), job.as_bytes(), pointer, Reason::Unknown)?,
+            "{job}"
+        );
+    }
+    Ok(())
+}
+
+#[test]
+fn unknown_members_below_a_job(rt: HostRuntime) -> Result<(), Fail> {
+    let table: [(&str, &str); 7] = [
         (
             "{\"script\":\"\",\"latitude\":{\"Last\":\"current\",\"redirect\":0}}",
             "/latitude/Last",
@@ -135,8 +148,8 @@ fn missing_members(rt: HostRuntime) -> Result<(), Fail> {
 }
 
 #[test]
-fn values_of_another_type(rt: HostRuntime) -> Result<(), Fail> {
-    let table: [(&str, &str); 56] = [
+fn members_of_another_type(rt: HostRuntime) -> Result<(), Fail> {
+    let table: [(&str, &str); 19] = [
         ("{\"script\":1}", "/script"),
         ("{\"script\":null}", "/script"),
         ("{\"script\":[]}", "/script"),
@@ -156,6 +169,19 @@ fn values_of_another_type(rt: HostRuntime) -> Result<(), Fail> {
         ("{\"script\":\"\",\"files\":{\"\\u0100\":[]}}", "/files/Ā"),
         ("{\"script\":\"\",\"table\":{}}", "/table"),
         ("{\"script\":\"\",\"table\":[1]}", "/table/0"),
+    ];
+    for (job, pointer) in table {
+        assert!(rt;
+            is_refused(rt.alloc(), job.as_bytes(), pointer, Reason::WrongType)?,
+            "{job}"
+        );
+    }
+    Ok(())
+}
+
+#[test]
+fn keys_of_rows_of_another_type(rt: HostRuntime) -> Result<(), Fail> {
+    let table: [(&str, &str); 3] = [
         (
             "{\"script\":\"\",\"table\":[{\"name\":1,\"answers\":[{}]}]}",
             "/table/0/name",
@@ -168,6 +194,19 @@ fn values_of_another_type(rt: HostRuntime) -> Result<(), Fail> {
             "{\"script\":\"\",\"table\":[{\"argv\":[\"a\",null],\"answers\":[{}]}]}",
             "/table/0/argv/1",
         ),
+    ];
+    for (job, pointer) in table {
+        assert!(rt;
+            is_refused(rt.alloc(), job.as_bytes(), pointer, Reason::WrongType)?,
+            "{job}"
+        );
+    }
+    Ok(())
+}
+
+#[test]
+fn inputs_of_another_type(rt: HostRuntime) -> Result<(), Fail> {
+    let table: [(&str, &str); 5] = [
         (
             "{\"script\":\"\",\"table\":[{\"name\":\"a\",\"input\":false,\"answers\":[{}]}]}",
             "/table/0/input",
@@ -188,6 +227,19 @@ fn values_of_another_type(rt: HostRuntime) -> Result<(), Fail> {
             "{\"script\":\"\",\"table\":[{\"name\":\"a\",\"input\":1.5,\"answers\":[{}]}]}",
             "/table/0/input",
         ),
+    ];
+    for (job, pointer) in table {
+        assert!(rt;
+            is_refused(rt.alloc(), job.as_bytes(), pointer, Reason::WrongType)?,
+            "{job}"
+        );
+    }
+    Ok(())
+}
+
+#[test]
+fn answers_of_another_type(rt: HostRuntime) -> Result<(), Fail> {
+    let table: [(&str, &str); 6] = [
         (
             "{\"script\":\"\",\"table\":[{\"name\":\"a\",\"answers\":{}}]}",
             "/table/0/answers",
@@ -212,6 +264,19 @@ fn values_of_another_type(rt: HostRuntime) -> Result<(), Fail> {
             "{\"script\":\"\",\"table\":[{\"name\":\"a\",\"answers\":[{\"err\":[]}]}]}",
             "/table/0/answers/0/err",
         ),
+    ];
+    for (job, pointer) in table {
+        assert!(rt;
+            is_refused(rt.alloc(), job.as_bytes(), pointer, Reason::WrongType)?,
+            "{job}"
+        );
+    }
+    Ok(())
+}
+
+#[test]
+fn bounds_and_latitude_of_another_type(rt: HostRuntime) -> Result<(), Fail> {
+    let table: [(&str, &str); 13] = [
         ("{\"script\":\"\",\"turns\":\"1\"}", "/turns"),
         ("{\"script\":\"\",\"turns\":null}", "/turns"),
         ("{\"script\":\"\",\"turns\":1.5}", "/turns"),
@@ -231,6 +296,19 @@ fn values_of_another_type(rt: HostRuntime) -> Result<(), Fail> {
             "{\"script\":\"\",\"latitude\":{\"redirect\":\"1\"}}",
             "/latitude/redirect",
         ),
+    ];
+    for (job, pointer) in table {
+        assert!(rt;
+            is_refused(rt.alloc(), job.as_bytes(), pointer, Reason::WrongType)?,
+            "{job}"
+        );
+    }
+    Ok(())
+}
+
+#[test]
+fn the_first_value_of_another_type_counts(rt: HostRuntime) -> Result<(), Fail> {
+    let table: [(&str, &str); 10] = [
         (
             "{\"script\":1,\"args\":[],\"env\":[],\"stdin\":1}",
             "/script",
@@ -264,8 +342,8 @@ fn values_of_another_type(rt: HostRuntime) -> Result<(), Fail> {
 }
 
 #[test]
-fn characters_that_stand_for_no_byte(rt: HostRuntime) -> Result<(), Fail> {
-    let table: [(&str, &str); 18] = [
+fn characters_of_a_job_that_stand_for_no_byte(rt: HostRuntime) -> Result<(), Fail> {
+    let table: [(&str, &str); 12] = [
         ("{\"script\":\"a\\u0100\"}", "/script"),
         ("{\"script\":\"\\u0000\"}", "/script"),
         ("{\"script\":\"\\ud83d\\ude00\"}", "/script"),
@@ -290,6 +368,19 @@ fn characters_that_stand_for_no_byte(rt: HostRuntime) -> Result<(), Fail> {
             "{\"script\":\"\",\"files\":{\"..\":\"\\u0100\"}}",
             "/files/..",
         ),
+    ];
+    for (job, pointer) in table {
+        assert!(rt;
+            is_refused(rt.alloc(), job.as_bytes(), pointer, Reason::NotBytes)?,
+            "{job}"
+        );
+    }
+    Ok(())
+}
+
+#[test]
+fn characters_below_a_job_that_stand_for_no_byte(rt: HostRuntime) -> Result<(), Fail> {
+    let table: [(&str, &str); 6] = [
         (
             "{\"script\":\"\",\"table\":[{\"name\":\"\\u0100\",\"answers\":[{}]}]}",
             "/table/0/name",

@@ -152,7 +152,7 @@ fn latitude(alloc: Global, last_current: bool, redirect: u8) -> Result<World, Me
 }
 
 #[test]
-fn numbers_reach_their_limits(rt: HostRuntime) -> Result<(), Fail> {
+fn bounds_reach_their_limits(rt: HostRuntime) -> Result<(), Fail> {
     let table: [(&[u8], u32, u32); 3] = [
         (b"{\"script\":\"\",\"turns\":0,\"depth\":0}", 0, 0),
         (
@@ -166,6 +166,11 @@ fn numbers_reach_their_limits(rt: HostRuntime) -> Result<(), Fail> {
         let world = bounded(rt.alloc(), turns, depth)?;
         assert!(rt; is_job(rt.alloc(), bytes, b"", world)?);
     }
+    Ok(())
+}
+
+#[test]
+fn the_latitude_reaches_its_limits(rt: HostRuntime) -> Result<(), Fail> {
     let table: [(&[u8], bool, u8); 4] = [
         (
             b"{\"script\":\"\",\"latitude\":{\"redirect\":125}}",

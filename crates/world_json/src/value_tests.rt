@@ -3,8 +3,8 @@ use crate::samples::is_refused;
 use std::test::Fail;
 
 #[test]
-fn numbers_and_words_out_of_range(rt: HostRuntime) -> Result<(), Fail> {
-    let table: [(&str, &str); 18] = [
+fn bounds_out_of_range(rt: HostRuntime) -> Result<(), Fail> {
+    let table: [(&str, &str); 7] = [
         ("{\"script\":\"\",\"turns\":10000001}", "/turns"),
         ("{\"script\":\"\",\"turns\":-1}", "/turns"),
         ("{\"script\":\"\",\"turns\":18446744073709551615}", "/turns"),
@@ -12,6 +12,19 @@ fn numbers_and_words_out_of_range(rt: HostRuntime) -> Result<(), Fail> {
         ("{\"script\":\"\",\"turns\":4294967296}", "/turns"),
         ("{\"script\":\"\",\"depth\":33}", "/depth"),
         ("{\"script\":\"\",\"depth\":-1}", "/depth"),
+    ];
+    for (job, pointer) in table {
+        assert!(rt;
+            is_refused(rt.alloc(), job.as_bytes(), pointer, Reason::Range)?,
+            "{job}"
+        );
+    }
+    Ok(())
+}
+
+#[test]
+fn latitude_out_of_range(rt: HostRuntime) -> Result<(), Fail> {
+    let table: [(&str, &str); 6] = [
         (
             "{\"script\":\"\",\"latitude\":{\"redirect\":0}}",
             "/latitude/redirect",
@@ -36,6 +49,19 @@ fn numbers_and_words_out_of_range(rt: HostRuntime) -> Result<(), Fail> {
             "{\"script\":\"\",\"latitude\":{\"last\":\"x\",\"redirect\":0}}",
             "/latitude/last",
         ),
+    ];
+    for (job, pointer) in table {
+        assert!(rt;
+            is_refused(rt.alloc(), job.as_bytes(), pointer, Reason::Range)?,
+            "{job}"
+        );
+    }
+    Ok(())
+}
+
+#[test]
+fn statuses_out_of_range(rt: HostRuntime) -> Result<(), Fail> {
+    let table: [(&str, &str); 2] = [
         (
             "{\"script\":\"\",\"table\":[{\"name\":\"a\",\"answers\":[{},{\"status\":256}]}]}",
             "/table/0/answers/1/status",
@@ -44,6 +70,19 @@ fn numbers_and_words_out_of_range(rt: HostRuntime) -> Result<(), Fail> {
             "{\"script\":\"\",\"table\":[{\"name\":\"a\",\"answers\":[{\"status\":-1}]}]}",
             "/table/0/answers/0/status",
         ),
+    ];
+    for (job, pointer) in table {
+        assert!(rt;
+            is_refused(rt.alloc(), job.as_bytes(), pointer, Reason::Range)?,
+            "{job}"
+        );
+    }
+    Ok(())
+}
+
+#[test]
+fn the_first_value_out_of_range_counts(rt: HostRuntime) -> Result<(), Fail> {
+    let table: [(&str, &str); 3] = [
         ("{\"script\":\"\",\"turns\":-1,\"depth\":-1}", "/turns"),
         ("{\"script\":\"\",\"latitude\":1,\"depth\":-1}", "/depth"),
         (
