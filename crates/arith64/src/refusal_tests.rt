@@ -198,9 +198,9 @@ fn long_chains_are_refused_at_their_ends(rt: HostRuntime) -> Result<(), Fail> {
 }
 
 #[test]
-fn a_hundred_thousand_operators_are_refused_at_their_end(rt: HostRuntime) -> Result<(), Fail> {
+fn a_quarter_of_a_million_operators_are_refused_at_their_end(rt: HostRuntime) -> Result<(), Fail> {
     let alloc = rt.alloc();
-    let text = repeated(alloc, 131_072, b"1+", b")")?;
-    reads(&rt, text.bytes(), b"bad 262144")?;
+    let text = repeated(alloc, 262_144, b"1+", b")")?;
+    reads(&rt, text.bytes(), b"bad 524288")?;
     Ok(())
 }
