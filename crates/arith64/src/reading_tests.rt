@@ -57,6 +57,7 @@ fn assign_text(op: Option<BinOp>) -> &'static [u8] {
 }
 
 /// Shows an operand with these texts before it and behind it.
+#[cycle(show)]
 fn show_operand(
     alloc: Global,
     before: &[u8],
@@ -69,6 +70,7 @@ fn show_operand(
     out.append(behind)
 }
 
+#[cycle(show)]
 fn show(alloc: Global, e: &Expr, out: &mut Text) -> Result<(), Memory> {
     match e {
         Expr::Constant(n) => out.append(format!(in alloc; "{n}")?.as_bytes()),
