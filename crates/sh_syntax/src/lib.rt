@@ -7,3 +7,6 @@ pub use tree::{
     AndOr, Arith, Assign, AssignValue, CaseItem, Command, CommandKind, FillTest, Function, Item,
     Joint, Name, Param, ParamOp, Part, PartKind, Pipeline, Redirect, RedirectOp, Script, Word,
 };
+
+#[cfg(test)]
+mod tests;
