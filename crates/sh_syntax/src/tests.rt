@@ -102,7 +102,11 @@ fn branching(alloc: Global) -> Result<Script, Memory> {
 fn defining(alloc: Global) -> Result<Script, Memory> {
     let subst = part(PartKind::Subst(calls(alloc, b"a")?));
     let quoted = part(PartKind::Double(one(alloc, subst)?));
-    let words = two(alloc, plain_word(alloc, b"show")?, word(one(alloc, quoted)?))?;
+    let words = two(
+        alloc,
+        plain_word(alloc, b"show")?,
+        word(one(alloc, quoted)?),
+    )?;
     let group = CommandKind::Group(script(alloc, call(alloc, words))?);
     let function = Function {
         name: name(alloc, b"f")?,
