@@ -1,5 +1,5 @@
 -- What is left behind delimiters of here-documents and behind their bodies.
-use Rattle.std.proofs.Common.{ℕ, zero, suc, ◌≤◌, Bool, true, false, cond, List, [], ◌∷◌, length, Option, Some, None, arith}
+use Rattle.std.proofs.Common.{ℕ, suc, ◌≤◌, Bool, true, false, cond, List, [], ◌∷◌, length, Option, Some, None, arith}
 use Rattle.std.specs.Prelude.{◌||◌, ◌&&◌, not, ◌==◌}
 use Rattle.sh_grammar.specs.Bytes.{Text, starts, is_join, in_word, in_double, is_plain, is_escaped, unit_starts}
 use Rattle.sh_grammar.specs.Expansions.{◌>>=◌}

@@ -2,7 +2,7 @@
 use Rattle.std.specs.Prelude.{ℕ, Bool, true, false, List, [], ◌∷◌, Option, Some, None}
 use Rattle.span_text.specs.declared.span.Span.{Span}
 use Rattle.span_text.specs.declared.expr.Expr.{Expr}
-use Rattle.sh_grammar.specs.Shape.{Part, plain, double, param, subst, arith, fill, trim, no_part, part, Parts, Words, no_word, word, Value, no_value, value, Assigns, no_assign, assign, RedirectOp, Redirects, no_redirect, redirect, Command, Kind, group, Branches, no_branch, branch, Otherwise, no_else, otherwise, ForWords, parameters, Items, no_item, item, Stages, no_stage, stage, Pipeline, pipeline, Links, no_link, and_link, or_link, Chain, chain, Script, no_chain, next_chain}
+use Rattle.sh_grammar.specs.Shape.{Part, plain, param, arith, fill, trim, no_part, part, Parts, Words, no_word, word, Value, no_value, value, Assigns, no_assign, assign, RedirectOp, Redirects, no_redirect, redirect, Command, command, Kind, group, Branches, no_branch, branch, Otherwise, no_else, otherwise, ForWords, parameters, Items, no_item, item, Stages, no_stage, stage, Pipeline, pipeline, Links, no_link, and_link, or_link, Chain, Script, no_chain, next_chain}
 use Rattle.sh_grammar.specs.Bytes.{Text}
 use Rattle.sh_grammar.specs.Expansions.{Head, closed, filling, trimming}
 use Rattle.sh_grammar.specs.Bodies.{Owed}
@@ -163,7 +163,7 @@ kind_in (kind_node k ∷ xs) = k
 kind_in (x ∷ xs) = kind_in xs
 
 abbrev pub command_in : List Node → Command
-command_in [] = Rattle.sh_grammar.specs.Shape.command no_kind no_redirect
+command_in [] = command no_kind no_redirect
 command_in (command_node c ∷ xs) = c
 command_in (x ∷ xs) = command_in xs
 

@@ -1,13 +1,13 @@
 -- What each step reads, and when each test holds.
-use Rattle.std.specs.Prelude.{ℕ, suc, ◌-◌, Bool, true, false, ◌||◌, ◌&&◌, not, ◌==◌, nat_lt, List, [], ◌∷◌, ◌++◌, Option, Some, None, if◌then◌else◌}
+use Rattle.std.specs.Prelude.{ℕ, zero, suc, ◌-◌, Bool, true, false, ◌||◌, ◌&&◌, not, ◌==◌, nat_lt, List, [], ◌∷◌, ◌++◌, Option, Some, None, if◌then◌else◌}
 use Rattle.span_text.specs.Names.{is_digit}
 use Rattle.text_grammar.specs.Grammar.{Leaf, quiet, said}
 use Rattle.sh_grammar.specs.Shape.{Parts, no_part, part, plain, exact as exact_part, tilde as tilde_part, param, as_is, RedirectOp, read, write, append, here_literal, here_expanded, copy_in, copy_out}
-use Rattle.sh_grammar.specs.Bytes.{Text, clear, gap, starts, literal_run, unit_starts, has_single, has_double, is_escaped, expands, is_bare_dollar, in_word}
-use Rattle.sh_grammar.specs.Tokens.{Op, End, Newline, Semi, AndIf, OrIf, Less, Great, DGreat, DLess, DLessDash, LessAnd, Open, Word, Key, Esac, token, is_token, bare, is_whole, is_key, here_next, copy_next, redirect_next, simple_next, compound_next, pipeline_next, name_at, assign_at, assign_next, function_next, tilde_at, tilde_next}
+use Rattle.sh_grammar.specs.Bytes.{Text, Context, clear, gap, starts, literal_run, unit_starts, has_single, has_double, is_escaped, is_bare_dollar, in_word}
+use Rattle.sh_grammar.specs.Tokens.{Op, End, Newline, Semi, AndIf, OrIf, Less, Great, DGreat, DLess, DLessDash, LessAnd, GreatAnd, Open, Word, Esac, token, is_token, bare, is_key, here_next, copy_next, redirect_next, simple_next, compound_next, pipeline_next, name_at, assign_at, assign_next, function_next, tilde_at, tilde_next}
 use Rattle.sh_grammar.specs.Expansions.{◌>>=◌, Head, closed as closed_head, filling, trimming, dollar_param, dollar_head, behind_two, dollar_sum, subst_next, sum_next, brace_next, closed_next, filling_next}
 use Rattle.sh_grammar.specs.Bodies.{Owed, delimiter_for, bodies_at}
-use Rattle.sh_grammar.specs.State.{State, move, Node, text_node, digit_node, part_node, head_node, expr_node, op_node, aimed_node}
+use Rattle.sh_grammar.specs.State.{State, Sum, move, Node, text_node, digit_node, part_node, head_node, expr_node, op_node, aimed_node}
 use Rattle.sh_grammar.specs.Sums.{sum_run, with_bytes, with_operand, no_sum, innermost, without_innermost}
 use Rattle.sh_grammar.specs.Table.{Step, op, key, line, ends, name, assign_name, descriptor, file_op, here, copy, to_word, tilde, literal, escaped, exact, quote, dollar, closed, open_head, open_subst, close_brace, open_sum, sum_bytes, operand, sum_open, sum_close, close_sum, enter, leave, Test, next, key_next, separates, goes_on, links, pipeline_begins, compound_begins, function_begins, simple_begins, assign_begins, redirect_begins, here_begins, copy_begins, prefix_begins, suffix_begins, item_begins, tilde_begins, unit_begins, single_begins, double_begins, escape_begins, expansion_begins, subst_begins, brace_begins, closed_begins, filling_begins, sum_begins, sum_goes_on, sum_opens}
 
@@ -46,7 +46,7 @@ word_place bytes = if is_token Word bytes then Some (gap bytes) else None
 
 abbrev pub nth : List Text → ℕ → Text
 nth [] n = []
-nth (x ∷ xs) Rattle.std.specs.Prelude.zero = x
+nth (x ∷ xs) zero = x
 nth (x ∷ xs) (suc n) = nth xs n
 
 -- a body that isn't expanded is one part, or none
@@ -91,7 +91,7 @@ copied_read s o (b ∷ bs) = if is_copied b && not (unit_starts in_word (clear b
 
 abbrev pub copy_read : State → Op × Text → Read
 copy_read s (LessAnd, rest) = word_place rest >>= λ place. copied_read s copy_in place
-copy_read s (Rattle.sh_grammar.specs.Tokens.GreatAnd, rest) = word_place rest >>= λ place. copied_read s copy_out place
+copy_read s (GreatAnd, rest) = word_place rest >>= λ place. copied_read s copy_out place
 copy_read s t = None
 
 abbrev pub digit_read : State → Text → Read
@@ -104,7 +104,7 @@ abbrev pub literal_read : State → Text × Text → Read
 literal_read s ([], rest) = None
 literal_read s (b ∷ bs, rest) = gives (part_node (plain (b ∷ bs))) s rest
 
-abbrev pub escaped_read : Rattle.sh_grammar.specs.Bytes.Context → State → Text → Read
+abbrev pub escaped_read : Context → State → Text → Read
 escaped_read c s [] = None
 escaped_read c s (b ∷ bs) = if is_escaped c b then gives (part_node (exact_part (b ∷ []))) s bs else None
 
@@ -125,7 +125,7 @@ head_read s (trimming p x l, rest) = gives (head_node (trimming p x l)) s rest
 
 -- ---- arithmetic expansions
 
-abbrev pub with_sums : State → List Rattle.sh_grammar.specs.State.Sum → Text → Read
+abbrev pub with_sums : State → List Sum → Text → Read
 with_sums s sums bytes = Some (quiet, record s { bytes = bytes; sums = sums })
 
 abbrev pub bytes_read : State → Text × Text → Read
@@ -177,7 +177,7 @@ run_step k leave s = Some (quiet, record s { depth = s.depth - 1 })
 abbrev pub byte_next : ℕ → Text → Bool
 byte_next k bytes = starts (λ b. b == k) (clear bytes)
 
-abbrev pub escaped_behind : Rattle.sh_grammar.specs.Bytes.Context → Text → Bool
+abbrev pub escaped_behind : Context → Text → Bool
 escaped_behind c [] = false
 escaped_behind c (b ∷ bs) = b == 92 && starts (is_escaped c) bs
 

@@ -1,7 +1,7 @@
 -- The grammar of sh, as a table (POSIX 2.10.2).
 use Rattle.text_grammar.specs.Grammar.{Grammar, pass, fail, step, choose, star, rule, ◌then◌}
 use Rattle.sh_grammar.specs.Bytes.{Context, in_word, in_double, in_body, fill_context, trim_context}
-use Rattle.sh_grammar.specs.Tokens.{Op, Newline, Semi, SemiSemi, AndIf, Pipe, Open, Close, Io, Key, If, Then, Elif, Else, Fi, For, In, Until, While, Do, Done, Case, Esac, OpenBrace, CloseBrace, Bang}
+use Rattle.sh_grammar.specs.Tokens.{Op, Newline, Semi, SemiSemi, AndIf, OrIf, Pipe, Open, Close, Io, Word, Key, If, Then, Elif, Else, Fi, For, In, Until, While, Do, Done, Case, Esac, OpenBrace, CloseBrace, Bang}
 
 -- What is read at once. All but the units of words stand behind blanks, joins and a comment.
 pub data Step : Type 0 where
@@ -188,7 +188,7 @@ body lines = star (next Newline) (step line)
 body chain = rule pipeline then star links (rule link)
 body link = choose (next AndIf) (rule and_link) (rule or_link)
 body and_link = step (op AndIf) then rule lines then rule pipeline
-body or_link = step (op Rattle.sh_grammar.specs.Tokens.OrIf) then rule lines then rule pipeline
+body or_link = step (op OrIf) then rule lines then rule pipeline
 -- pipeline: '!'? command ('|' newline* command)*
 body pipeline = choose (key_next Bang) (rule bang) pass then rule command then star (next Pipe) (rule stage)
 body bang = step (key Bang)
@@ -215,7 +215,7 @@ body do_body = step (key Do) then rule list then step (key Done)
 -- for NAME (';' newline* | newline* ('in' word* (';' | newline) newline*)?) do list done
 body for_loop = step (key For) then step name then step enter then rule for_words then rule do_body then step leave
 body for_words = choose (next Semi) (step (op Semi) then rule lines) (rule lines then choose (key_next In) (rule for_in) pass)
-body for_in = step (key In) then star (next Rattle.sh_grammar.specs.Tokens.Word) (rule word) then choose (next Semi) (step (op Semi)) (step line) then rule lines
+body for_in = step (key In) then star (next Word) (rule word) then choose (next Semi) (step (op Semi)) (step line) then rule lines
 -- case word newline* in newline* item* esac
 body case_command = step (key Case) then step enter then rule word then rule lines then rule case_in then step leave
 body case_in = step (key In) then rule lines then star item_begins (rule case_item) then step (key Esac)
