@@ -1,0 +1,9 @@
+pub mod Shape
+pub mod Bytes
+pub mod Quotes
+pub mod Tokens
+pub mod Heads
+pub mod Bodies
+pub mod State
+pub mod Sums
+pub mod Table
