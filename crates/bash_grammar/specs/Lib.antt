@@ -7,3 +7,10 @@ pub mod Bodies
 pub mod State
 pub mod Sums
 pub mod Table
+pub mod Nodes
+pub mod Steps
+pub mod Tests
+pub mod Acts
+pub mod Depths
+pub mod Spelling
+pub mod Pieces
