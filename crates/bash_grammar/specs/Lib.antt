@@ -14,3 +14,5 @@ pub mod Acts
 pub mod Depths
 pub mod Spelling
 pub mod Pieces
+pub mod Shown
+pub mod Worked

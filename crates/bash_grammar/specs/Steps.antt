@@ -5,7 +5,7 @@ use Rattle.span_text.specs.declared.expr.Expr.{Expr}
 use Rattle.span_text.specs.declared.span.Span.{Span}
 use Rattle.span_text.specs.KnownNames.{same_text}
 use Rattle.text_grammar.specs.Grammar.{Leaf, quiet, said}
-use Rattle.bash_grammar.specs.Shape.{Code, Name, TestOp, Part, plain, exact as exact_part, tilde as tilde_part, param, as_is, named, digits, Parts, no_part, part, Word, word, RedirectOp, read, write, append, here_literal, here_expanded, here_string, copy_in, copy_out, both_out, both_append, refused_op, ItemEnd, stop, fall, test_on, special_parameter, process_substitution, extended_glob, locale_quote, nested_quote, ansi_escape, backquote, read_write, indirect}
+use Rattle.bash_grammar.specs.Shape.{Code, Name, TestOp, Part, plain, exact as exact_part, tilde as tilde_part, param, as_is, named, digits, Parts, no_part, part, Word, word, RedirectOp, read, write, append, here_literal, here_expanded, here_string, copy_in, copy_out, both_out, both_append, refused_op, ItemEnd, stop, fall, test_on, special_parameter, extended_glob, locale_quote, nested_quote, ansi_escape, backquote, read_write, indirect}
 use Rattle.bash_grammar.specs.Bytes.{Text, Context, in_word, clear, gap, starts, byte_next, literal_in, unit_starts, name_run, is_angle}
 use Rattle.bash_grammar.specs.Quotes.{quoted_run, Ansi, outside, ansi_from}
 use Rattle.bash_grammar.specs.Tokens.{◌>>=◌, behind, Op, End, Newline, Semi, SemiSemi, SemiAnd, SemiSemiAnd, Amp, Pipe, PipeAnd, Open, Less, Great, Clobber, DGreat, DLess, DLessDash, TLess, LessAnd, GreatAnd, LessGreat, AndGreat, AndDGreat, Io, Far, Word as WordToken, token, is_token, literal_word, is_key, is_word_of, unary_tests, binary_tests, is_angle_token, name_at, tilde_at}
@@ -14,7 +14,7 @@ use Rattle.bash_grammar.specs.Bodies.{Owed, Lines, delimiter_for, body_at}
 use Rattle.bash_grammar.specs.State.{State, Found, Outer, Frame, move, nth, offset, behind_quotes, place_of, place_behind, span_at}
 use Rattle.bash_grammar.specs.Sums.{Outcome, spelled, spoiled, outcome, stretch_run, open_frame, close_frame, level_of, with_level, begin_operand as begin_in, end_operand as end_in, marks, names_of, effects_from, framed, is_idle, joined_up, placed_from}
 use Rattle.bash_grammar.specs.Nodes.{Node, mark_node, name_node, digit_node, far_node, unit_node, code_node, code_at_node, sum_node, blank_node, bad_node, subject_node, members_node, fill_node, trim_node, case_node, replace_node, op_node, aimed_node, append_node, both_node, ampersand_node, end_node, test_node}
-use Rattle.bash_grammar.specs.Table.{Flag, posix, last_flag, Step, op, key, line, ends, ampersand, pipe, item_op, test_op, option, name, assign_name, assign_op, digit, far, redirect_op, here_document, from_token, from_unit, to_here, to_word, to_regex, byte, tilde, literal, escaped, exact, ansi, nested_exact, nested_ansi, lone_quote, lone_ansi, lone_locale, open_locale, dollar, open_subst, open_process, lone_process, lone_glob, open_old, open_glob, open_group, close_group, odd_ticks, open_ticks, close_ticks, open_length, open_pointed, open_named, open_special, members, open_key, names, fill_op, trim_op, case_op, replace_op, slice_op, transform_op, open_sum, open_double, close_double, begin_sum, end_sum, sum_bytes, begin_operand, end_operand, enter, leave}
+use Rattle.bash_grammar.specs.Table.{Flag, posix, last_flag, Step, op, key, line, ends, ampersand, pipe, item_op, test_op, option, name, assign_name, assign_op, digit, far, redirect_op, here_document, from_token, from_unit, to_here, to_word, to_regex, byte, tilde, literal, escaped, exact, ansi, nested_exact, nested_ansi, lone_quote, lone_ansi, lone_locale, open_locale, dollar, open_subst, open_process, lone_glob, open_old, open_glob, open_group, close_group, odd_ticks, open_ticks, close_ticks, open_length, open_pointed, open_named, open_special, members, open_key, names, fill_op, trim_op, case_op, replace_op, slice_op, transform_op, open_sum, open_double, close_double, begin_sum, end_sum, sum_bytes, begin_operand, end_operand, enter, leave}
 
 -- What is known of a text: the bodies of its here-documents, how an expanded one is read at a depth, and what follows a
 -- subscript.
@@ -295,7 +295,6 @@ run_step k open_locale s = behind_two 36 34 s.bytes >>= silent s
 run_step k dollar s = or_short s (dollar_name s.bytes)
 run_step k open_subst s = behind_two 36 40 s.bytes >>= silent s
 run_step k open_process s = behind_sign (clear s.bytes) >>= silent s
-run_step k lone_process s = lone_two s process_substitution (clear s.bytes)
 run_step k lone_glob s = lone_two s extended_glob (clear s.bytes)
 run_step k open_old s = behind_two 36 91 s.bytes >>= λ rest. with_frames s (open_frame rest s.frames) rest
 run_step k open_glob s = behind_sign (clear s.bytes) >>= λ rest. with_frames s (open_frame rest s.frames) rest

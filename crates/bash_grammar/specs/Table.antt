@@ -66,10 +66,9 @@ pub data Step : Type 0 where
   open_locale : Step
   -- `$a`
   dollar : Step
-  -- `$(`, `<(`; `<(` and `@(` where they end at once
+  -- `$(`, `<(`; `@(` where it ends at once
   open_subst : Step
   open_process : Step
-  lone_process : Step
   lone_glob : Step
   -- `$[`, `@(`, `(`, and what closes them
   open_old : Step
@@ -314,7 +313,6 @@ pub data Rule : Type 0 where
   expansion : Context → Rule
   named_expansion : Context → Rule
   other_unit : Context → Rule
-  process_unit : Context → Rule
   glob_unit : Context → Rule
   process : Rule
   glob : Rule
@@ -522,8 +520,7 @@ body locale = step open_locale then star (unit_begins in_double) (rule (part in_
 body (expansion c) = choose sum_begins (rule (sum c)) (choose subst_begins (rule subst) (rule (named_expansion c)))
 body (named_expansion c) = choose brace_begins (rule (braces c)) (choose old_begins (rule old) (step dollar))
 -- `..` | <( list? ) | @( .. )
-body (other_unit c) = choose (odd_tick_begins c) (step odd_ticks) (choose tick_begins (rule ticks) (choose (process_begins c) (rule (process_unit c)) (rule (glob_unit c))))
-body (process_unit c) = choose (in_command c) (rule process) (step lone_process)
+body (other_unit c) = choose (odd_tick_begins c) (step odd_ticks) (choose tick_begins (rule ticks) (choose (process_begins c) (rule process) (rule (glob_unit c))))
 body (glob_unit c) = choose (in_command c) (rule glob) (step lone_glob)
 body process = step open_process then step enter then rule maybe_list then step (op Close) then step leave
 body glob = step open_glob then star (unit_begins in_group) (rule (part in_group)) then step (close_group 41)
