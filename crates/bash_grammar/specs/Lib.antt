@@ -15,4 +15,6 @@ pub mod Depths
 pub mod Spelling
 pub mod Pieces
 pub mod Shown
-pub mod Worked
+pub mod Commands
+pub mod Compounds
+pub mod Words
