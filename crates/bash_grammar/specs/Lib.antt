@@ -18,3 +18,5 @@ pub mod Shown
 pub mod Commands
 pub mod Compounds
 pub mod Words
+pub mod Errors
+pub mod Places
