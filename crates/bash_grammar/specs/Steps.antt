@@ -79,7 +79,8 @@ item_read s t = None
 
 -- an operator that is a word, or `<` or `>`
 abbrev pub test_read : State → Text → Text × Text → Read
-test_read s from x = gives (test_node (record { text = x.0; span = span_at s from x.1 })) s x.1
+test_read s from ([], rest) = None
+test_read s from (b ∷ bs, rest) = gives (test_node (record { text = b ∷ bs; span = span_at s from rest })) s rest
 
 abbrev pub angle_read : State → Text → Read
 angle_read s [] = None

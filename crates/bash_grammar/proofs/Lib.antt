@@ -1,0 +1,5 @@
+pub mod Tools
+pub mod Lengths
+pub mod Fronts
+pub mod Heads
+pub mod Lines
