@@ -6,3 +6,6 @@ pub mod Lines
 pub mod Quotations
 pub mod Leaves
 pub mod Steps
+pub mod Shallow
+pub mod Small
+pub mod Ends
