@@ -12,7 +12,7 @@ use Rattle.bash_grammar.specs.Bodies.{delimiter_for}
 use Rattle.bash_grammar.specs.State.{State, Found, Outer, Frame, move, behind_quotes, ahead}
 use Rattle.bash_grammar.specs.Sums.{Stretch, ends_stretch, is_sum_byte, stretch_level, stretch_from, stretch_run, with_level}
 use Rattle.bash_grammar.specs.Nodes.{Node}
-use Rattle.bash_grammar.specs.Table.{Flag, posix, last_flag}
+use Rattle.bash_grammar.specs.Moves.{Flag, posix, last_flag}
 use Rattle.bash_grammar.specs.Steps.{Known, Read, name_read, dollar_read, short_read, or_short, pipe_read, item_read, test_read, angle_read, flag_text, word_place, digit_read, far_read, redirect_read, here_node, body_in, owes, here_after, here_read, bodies_at, line_read, literal_read, byte_read, ansi_read, lone_read, lone_two, behind_sign, tick_run, ticks_at, into_ticks, out_of_ticks, sum_read, stretch_read}
 use Rattle.bash_grammar.proofs.Tools as tools
 use Rattle.bash_grammar.proofs.Tools.{chosen, chosen_by, then}

@@ -11,7 +11,7 @@ use Rattle.bash_grammar.specs.Heads.{Special, behind_two, dollar_name, brace_nam
 use Rattle.bash_grammar.specs.State.{State, move, ahead}
 use Rattle.bash_grammar.specs.Sums.{level_of, open_frame, close_frame, begin_operand as begin_in, end_operand as end_in, stretch_run}
 use Rattle.bash_grammar.specs.Nodes.{Node}
-use Rattle.bash_grammar.specs.Table.{Step, op, key, line, ends, ampersand, pipe, item_op, test_op, option, name, assign_name, assign_op, digit, far, redirect_op, here_document, from_token, from_unit, to_here, to_word, to_regex, byte, tilde, literal, escaped, exact, ansi, nested_exact, nested_ansi, lone_quote, lone_ansi, lone_locale, open_locale, dollar, open_subst, open_process, lone_glob, open_old, open_glob, open_group, close_group, odd_ticks, open_ticks, close_ticks, open_length, open_pointed, open_named, open_special, members, open_key, names, fill_op, trim_op, case_op, replace_op, slice_op, transform_op, open_sum, open_double, close_double, begin_sum, end_sum, sum_bytes, begin_operand, end_operand, enter, leave}
+use Rattle.bash_grammar.specs.Moves.{Step, op, key, line, ends, ampersand, pipe, item_op, test_op, option, name, assign_name, assign_op, digit, far, redirect_op, here_document, from_token, from_unit, to_here, to_word, to_regex, byte, tilde, literal, escaped, exact, ansi, nested_exact, nested_ansi, lone_quote, lone_ansi, lone_locale, open_locale, dollar, open_subst, open_process, lone_glob, open_old, open_glob, open_group, close_group, odd_ticks, open_ticks, close_ticks, open_length, open_pointed, open_named, open_special, members, open_key, names, fill_op, trim_op, case_op, replace_op, slice_op, transform_op, open_sum, open_double, close_double, begin_sum, end_sum, sum_bytes, begin_operand, end_operand, enter, leave}
 use Rattle.bash_grammar.specs.Steps.{Known, limit, Read, name_read, flag_text, word_place, ansi_read, behind_sign, ticks_at, equals_at, none_owed, run_step}
 use Rattle.bash_grammar.specs.Depths.{op_takes, step_takes}
 use Rattle.bash_grammar.proofs.Tools as tools

@@ -2,7 +2,8 @@
 use Rattle.std.specs.Prelude.{ℕ, Bool, true, false}
 use Rattle.text_grammar.specs.Ranks.{Ranks}
 use Rattle.bash_grammar.specs.Tokens.{Op, End, Io, Far, Word}
-use Rattle.bash_grammar.specs.Table.{Step, op, far, ends, from_token, from_unit, to_here, to_word, to_regex, begin_sum, end_sum, begin_operand, end_operand, enter, leave, Rule, piece, line_piece, complete, complete_more, separator, list, maybe_list, list_more, lines, chain, link, and_link, or_link, pipeline, bang, stage, command, compound_command, compound, parenthesis, other_compound, loop_or_case, group, subshell, sum_command, if_command, if_branch, elif_branch, else_part, while_loop, until_loop, do_body, for_loop, name_for, for_words, for_in, sum_for, section, last_section, select_loop, case_command, case_in, case_item, pattern_more, item_end, other_command, function_command, function_rest, parens, time_command, time_prefix, timed_bang, coproc_command, coproc_rest, coproc_named, conditional, cond_or, or_more, cond_and, and_more, cond_not, cond_term, cond_group, unary, binary, binary_more, cond_word, regex_test, regex, regex_part, regex_group, simple_command, simple_body, prefixed, behind_prefix, called, calling, declaring, declared, declared_items, declared_item, list_word, suffix, prefix_item, suffix_item, assign, assigned, elements, element_item, element, indexed, element_value, redirect, target, file, word, value, word_parts, tilde_part, more_parts, pattern, part, unit, quote, odd_quote, double_quotes, dollar_part, dollar_quote, ansi_quote, locale, expansion, named_expansion, other_unit, glob_unit, process, glob, old, subst, ticks, braces, length_braces, pointed_braces, valued_braces, special_braces, index, subscript, key_part, key_operand, operation, other_operation, transform, fill, trim, casing, replace, replacement, slice, offset, slice_length, braced, sum, sum_part, sum_group, sum_operand, body_parts}
+use Rattle.bash_grammar.specs.Moves.{Step, op, far, ends, from_token, from_unit, to_here, to_word, to_regex, begin_sum, end_sum, begin_operand, end_operand, enter, leave}
+use Rattle.bash_grammar.specs.Table.{Rule, piece, line_piece, complete, complete_more, separator, list, maybe_list, list_more, lines, chain, link, and_link, or_link, pipeline, bang, stage, command, compound_command, compound, parenthesis, other_compound, loop_or_case, group, subshell, sum_command, if_command, if_branch, elif_branch, else_part, while_loop, until_loop, do_body, for_loop, name_for, for_words, for_in, sum_for, section, last_section, select_loop, case_command, case_in, case_item, pattern_more, item_end, other_command, function_command, function_rest, parens, time_command, time_prefix, timed_bang, coproc_command, coproc_rest, coproc_named, conditional, cond_or, or_more, cond_and, and_more, cond_not, cond_term, cond_group, unary, binary, binary_more, cond_word, regex_test, regex, regex_part, regex_group, simple_command, simple_body, prefixed, behind_prefix, called, calling, declaring, declared, declared_items, declared_item, list_word, suffix, prefix_item, suffix_item, assign, assigned, elements, element_item, element, indexed, element_value, redirect, target, file, word, value, word_parts, tilde_part, more_parts, pattern, part, unit, quote, odd_quote, double_quotes, dollar_part, dollar_quote, ansi_quote, locale, expansion, named_expansion, other_unit, glob_unit, process, glob, old, subst, ticks, braces, length_braces, pointed_braces, valued_braces, special_braces, index, subscript, key_part, key_operand, operation, other_operation, transform, fill, trim, casing, replace, replacement, slice, offset, slice_length, braced, sum, sum_part, sum_group, sum_operand, body_parts}
 
 -- operators that are tokens take bytes
 abbrev pub op_takes : Op → Bool

@@ -6,6 +6,7 @@ pub mod Heads
 pub mod Bodies
 pub mod State
 pub mod Sums
+pub mod Moves
 pub mod Table
 pub mod Nodes
 pub mod Steps

@@ -11,8 +11,9 @@ use Rattle.bash_grammar.specs.Bytes.{Text, in_word, gap, idle}
 use Rattle.bash_grammar.specs.Tokens.{◌>>=◌}
 use Rattle.bash_grammar.specs.State.{State, Found, start_at, start_in, fresh, ahead}
 use Rattle.bash_grammar.specs.Nodes.{Node, nowhere, word_in, chains_in}
-use Rattle.bash_grammar.specs.Table.{Step, Test, Rule, piece, line_piece, subscript, body_parts, body}
-use Rattle.bash_grammar.specs.Steps.{Known, limit, run_step}
+use Rattle.bash_grammar.specs.Moves.{Step, Test}
+use Rattle.bash_grammar.specs.Table.{Rule, piece, line_piece, subscript, body_parts, body}
+use Rattle.bash_grammar.specs.Steps.{Scan, Known, limit, run_step}
 use Rattle.bash_grammar.specs.Tests.{holds}
 use Rattle.bash_grammar.specs.Acts.{act}
 use Rattle.bash_grammar.specs.Depths.{ranks}
@@ -22,12 +23,12 @@ Lang = Language State Step Test Rule Node
 
 -- Bash, where so much is known
 abbrev pub knowing : Known → Lang
-knowing k = record { run_step = run_step k; holds = holds k; body = body; act = act; size = ahead; ranks = ranks }
+knowing k = record { run_step = run_step k; holds = holds k.scan; body = body; act = act; size = ahead; ranks = ranks }
 
 abbrev pub no_word : ℕ → Found → Option Word
 no_word depth f = None
 
-abbrev pub no_scan : State → Option Text
+abbrev pub no_scan : Scan
 no_scan s = None
 
 -- a body, by a language for each of the bodies in it
@@ -35,7 +36,7 @@ abbrev pub expanded_by : (List Found → Lang) → ℕ → Found → Option Word
 expanded_by l depth f = vals (l []) (rule body_parts) (start_in depth f) >>= λ x. vals (l x.1.found) (rule body_parts) (start_in depth f) >>= λ y. Some (word_in nowhere y.0)
 
 -- what follows a subscript
-abbrev pub scanned_by : Lang → State → Option Text
+abbrev pub scanned_by : Lang → Scan
 scanned_by l s = vals l (rule (subscript in_word)) s >>= λ x. Some x.1.bytes
 
 -- Bash with bodies in bodies, and assignments in subscripts, at most n deep, where these are the bodies.

@@ -14,14 +14,17 @@ use Rattle.bash_grammar.specs.Bodies.{Owed, Lines, delimiter_for, body_at}
 use Rattle.bash_grammar.specs.State.{State, Found, Outer, Frame, move, nth, offset, behind_quotes, place_of, place_behind, span_at}
 use Rattle.bash_grammar.specs.Sums.{Outcome, spelled, spoiled, outcome, stretch_run, open_frame, close_frame, level_of, with_level, begin_operand as begin_in, end_operand as end_in, marks, names_of, effects_from, framed, is_idle, joined_up, placed_from}
 use Rattle.bash_grammar.specs.Nodes.{Node, mark_node, name_node, digit_node, far_node, unit_node, code_node, code_at_node, sum_node, blank_node, bad_node, subject_node, members_node, fill_node, trim_node, case_node, replace_node, op_node, aimed_node, append_node, both_node, ampersand_node, end_node, test_node}
-use Rattle.bash_grammar.specs.Table.{Flag, posix, last_flag, Step, op, key, line, ends, ampersand, pipe, item_op, test_op, option, name, assign_name, assign_op, digit, far, redirect_op, here_document, from_token, from_unit, to_here, to_word, to_regex, byte, tilde, literal, escaped, exact, ansi, nested_exact, nested_ansi, lone_quote, lone_ansi, lone_locale, open_locale, dollar, open_subst, open_process, lone_glob, open_old, open_glob, open_group, close_group, odd_ticks, open_ticks, close_ticks, open_length, open_pointed, open_named, open_special, members, open_key, names, fill_op, trim_op, case_op, replace_op, slice_op, transform_op, open_sum, open_double, close_double, begin_sum, end_sum, sum_bytes, begin_operand, end_operand, enter, leave}
+use Rattle.bash_grammar.specs.Moves.{Flag, posix, last_flag, Step, op, key, line, ends, ampersand, pipe, item_op, test_op, option, name, assign_name, assign_op, digit, far, redirect_op, here_document, from_token, from_unit, to_here, to_word, to_regex, byte, tilde, literal, escaped, exact, ansi, nested_exact, nested_ansi, lone_quote, lone_ansi, lone_locale, open_locale, dollar, open_subst, open_process, lone_glob, open_old, open_glob, open_group, close_group, odd_ticks, open_ticks, close_ticks, open_length, open_pointed, open_named, open_special, members, open_key, names, fill_op, trim_op, case_op, replace_op, slice_op, transform_op, open_sum, open_double, close_double, begin_sum, end_sum, sum_bytes, begin_operand, end_operand, enter, leave}
 
--- What is known of a text: the bodies of its here-documents, how an expanded one is read at a depth, and what follows a
--- subscript.
+-- what follows a subscript that begins here
+abbrev pub Scan : Type 0
+Scan = State → Option Text
+
+-- What is known of a text: the bodies of its here-documents, how an expanded one is read at a depth, and how subscripts end.
 pub record Known : Type 0 where
   pub bodies : List Found
   pub expand : ℕ → Found → Option Word
-  pub scan : State → Option Text
+  pub scan : Scan
 
 -- nesting is at most so deep
 abbrev pub limit : ℕ
