@@ -113,7 +113,7 @@ braced_fits bytes =
     let n = length bytes in
     then (Within n) (Within n) (behind 123 bytes) (λ x. cond (starts begins_name (clear x)) (behind 125 (clear (name_run x).1)) None) (one_behind 123 n bytes (omega arith))
     (λ x h. let r = name_run_fits x in let c = clear_fits (name_run x).1 in
-        chosen (If (Within n)) (starts begins_name (clear x)) (behind 125 (clear (name_run x).1)) None (one_behind 125 n (clear (name_run x).1) (omega arith)) tt)
+    chosen (If (Within n)) (starts begins_name (clear x)) (behind 125 (clear (name_run x).1)) None (one_behind 125 n (clear (name_run x).1) (omega arith)) tt)
 
 braces_fit : (bytes : Text) (o : Option Text) → If (Within (length bytes)) o → TokenFits (length bytes) (braces_word bytes o)
 braces_fit bytes None h = omega arith

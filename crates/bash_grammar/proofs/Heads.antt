@@ -1,14 +1,14 @@
 -- What is left behind names, parameters, and what stands behind a `$`.
-use Rattle.std.proofs.Common.{◌≡◌, ℕ, suc, ◌+◌, ◌≤◌, Bool, true, false, cond, [], ◌∷◌, length, Option, Some, None, refl, subst, eqb-true, arith}
+use Rattle.std.proofs.Common.{◌≡◌, ℕ, ◌+◌, ◌≤◌, Bool, true, false, cond, [], ◌∷◌, length, Option, Some, None, refl, subst, eqb-true, arith}
 use Rattle.std.specs.Prelude.{◌||◌, ◌&&◌, not, ◌==◌}
 use Rattle.span_text.specs.Names.{is_letter, begins_name, continues_name, is_digit}
 use Rattle.bash_grammar.specs.Shape.{indirect, special_parameter, FillTest, ReplaceAt, digits, count}
-use Rattle.bash_grammar.specs.Bytes.{Text, is_join, clear, gap, starts, byte_next, is_special_param, name_run, digit_run, in_word, unit_starts}
+use Rattle.bash_grammar.specs.Bytes.{Text, is_join, clear, starts, byte_next, is_special_param, name_run, digit_run, in_word, unit_starts}
 use Rattle.bash_grammar.specs.Tokens.{◌>>=◌, behind, is_something, name_at, tilde_at}
 use Rattle.bash_grammar.specs.Heads.{Subject, known, refused, special, short_param_at, closes, Special, of_length, of_value, is_lone_special, head_of, tail, hash_special, bang_special, special_at, behind_two, opens_name, dollar_name, dollar_short, if_name, brace_name, length_name, pointed_name, brace_special, dollar_sum, members_at, names_at, fill_test, fill_in, fill_at, doubled, trim_in, trim_at, case_in, case_at, replace_in, replace_at, is_transform, transform_in, transform_at, slice_at}
 use Rattle.bash_grammar.specs.Steps.{equals_at}
 use Rattle.bash_grammar.proofs.Tools.{chosen, chosen_by, If, weaker, then}
-use Rattle.bash_grammar.proofs.Lengths.{clear_fits, gap_fits, run_fits, name_run_fits, digit_run_fits}
+use Rattle.bash_grammar.proofs.Lengths.{clear_fits, run_fits, digit_run_fits}
 
 -- what is left has at most n bytes, or fewer
 abbrev pub Within : ℕ → Text → Type 0
@@ -187,9 +187,9 @@ members_fits bytes =
     let n = length bytes in let P = If (RestLeft {A = Bool} n) in
     then (Left n) (RestLeft {A = Bool} n) (behind 91 (clear bytes)) _ (behind_clear 91 n bytes (omega arith))
     (λ a h. let c = clear_fits a in let t = tail_fits (clear a) in
-        chosen P (byte_next 64 a) _ _
-        (then (Left n) (RestLeft {A = Bool} n) (behind 93 (clear (tail (clear a)))) (λ rest. Some (true, rest)) (behind_clear 93 n (tail (clear a)) (omega arith)) (λ rest i. i))
-        (chosen P (byte_next 42 a) _ _ (then (Left n) (RestLeft {A = Bool} n) (behind 93 (clear (tail (clear a)))) (λ rest. Some (false, rest)) (behind_clear 93 n (tail (clear a)) (omega arith)) (λ rest i. i)) tt))
+    chosen P (byte_next 64 a) _ _
+    (then (Left n) (RestLeft {A = Bool} n) (behind 93 (clear (tail (clear a)))) (λ rest. Some (true, rest)) (behind_clear 93 n (tail (clear a)) (omega arith)) (λ rest i. i))
+    (chosen P (byte_next 42 a) _ _ (then (Left n) (RestLeft {A = Bool} n) (behind 93 (clear (tail (clear a)))) (λ rest. Some (false, rest)) (behind_clear 93 n (tail (clear a)) (omega arith)) (λ rest i. i)) tt))
 
 or_left : (a b c : Bool) → ((a || b) && c) ≡ true → (a || b) ≡ true
 or_left true b c e = refl

@@ -1,11 +1,11 @@
 -- What the reads of steps leave: no more bytes than there were, and mostly fewer.
-use Rattle.std.proofs.Common.{◌≡◌, ℕ, zero, suc, ◌+◌, ◌≤◌, Bool, true, false, cond, List, [], ◌∷◌, ◌++◌, length, Option, Some, None, refl, ap, arith}
+use Rattle.std.proofs.Common.{◌≡◌, ℕ, zero, suc, ◌+◌, ◌≤◌, Bool, true, false, List, [], ◌∷◌, ◌++◌, length, Option, Some, None, refl, ap, arith}
 use Rattle.std.proofs.lemmas.Bool.{eqb-false}
-use Rattle.std.specs.Prelude.{◌||◌, ◌&&◌, not, ◌==◌, codes}
+use Rattle.std.specs.Prelude.{◌&&◌, not, ◌==◌, codes}
 use Rattle.text_grammar.specs.Grammar.{Leaf, quiet, said}
 use Rattle.span_text.specs.KnownNames.{same_text, is_among}
 use Rattle.bash_grammar.specs.Shape.{Code}
-use Rattle.bash_grammar.specs.Bytes.{Text, Context, clear, gap, in_word, literal_in, name_run}
+use Rattle.bash_grammar.specs.Bytes.{Text, clear, gap, in_word, name_run}
 use Rattle.bash_grammar.specs.Tokens.{◌>>=◌, behind, Op, Pipe, PipeAnd, SemiSemi, SemiAnd, SemiSemiAnd, Less, Great, Clobber, DGreat, DLess, DLessDash, TLess, LessAnd, GreatAnd, LessGreat, AndGreat, AndDGreat, Far, Word, Key, If, Then, Elif, Else, Fi, For, In, Until, While, Do, Done, Case, Esac, Select, Function, Time, Coproc, OpenBrace, CloseBrace, OpenCond, CloseCond, Bang, key_text, literal_word, is_whole, is_key, is_word_of, is_token}
 use Rattle.bash_grammar.specs.Heads.{Subject, known, refused, dollar_short}
 use Rattle.bash_grammar.specs.Bodies.{delimiter_for}
@@ -13,12 +13,12 @@ use Rattle.bash_grammar.specs.State.{State, Found, Outer, Frame, move, behind_qu
 use Rattle.bash_grammar.specs.Sums.{Stretch, ends_stretch, is_sum_byte, stretch_level, stretch_from, stretch_run, with_level}
 use Rattle.bash_grammar.specs.Nodes.{Node}
 use Rattle.bash_grammar.specs.Moves.{Flag, posix, last_flag}
-use Rattle.bash_grammar.specs.Steps.{Known, Read, name_read, dollar_read, short_read, or_short, pipe_read, item_read, test_read, angle_read, flag_text, word_place, digit_read, far_read, redirect_read, here_node, body_in, owes, here_after, here_read, bodies_at, line_read, literal_read, byte_read, ansi_read, lone_read, lone_two, behind_sign, tick_run, ticks_at, into_ticks, out_of_ticks, sum_read, stretch_read}
+use Rattle.bash_grammar.specs.Steps.{Known, Read, name_read, dollar_read, short_read, or_short, pipe_read, item_read, test_read, angle_read, flag_text, word_place, digit_read, far_read, redirect_read, here_node, body_in, owes, here_after, here_read, bodies_at, line_read, literal_read, byte_read, lone_read, lone_two, behind_sign, tick_run, ticks_at, into_ticks, out_of_ticks, sum_read, stretch_read}
 use Rattle.bash_grammar.proofs.Tools as tools
 use Rattle.bash_grammar.proofs.Tools.{chosen, chosen_by, then}
 use Rattle.bash_grammar.proofs.Lengths.{clear_fits, gap_fits, literal_fits, name_run_fits, BothCounted}
 use Rattle.bash_grammar.proofs.Fronts.{TokenFits}
-use Rattle.bash_grammar.proofs.Heads.{Within, Left, Rest, RestLeft, behind_fits, behind_clear, dollar_short_fits}
+use Rattle.bash_grammar.proofs.Heads.{Within, Left, Rest, RestLeft, behind_clear, dollar_short_fits}
 use Rattle.bash_grammar.proofs.Lines.{delimiter_for_fits, bodies_fit}
 
 -- with k bytes more than these there are at most those of s

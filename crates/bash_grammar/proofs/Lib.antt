@@ -9,3 +9,9 @@ pub mod Steps
 pub mod Shallow
 pub mod Small
 pub mod Ends
+pub mod Known
+pub mod Pieces
+pub mod Stuck
+pub mod Spelled
+pub mod Whole
+pub mod Stops

@@ -1,12 +1,12 @@
 -- What is left behind delimiters of here-documents and behind their bodies.
-use Rattle.std.proofs.Common.{ℕ, suc, ◌+◌, ◌≤◌, Bool, true, false, cond, List, [], ◌∷◌, length, Option, Some, None, arith}
+use Rattle.std.proofs.Common.{ℕ, suc, ◌≤◌, Bool, true, false, cond, List, [], ◌∷◌, length, Option, Some, None, arith}
 use Rattle.std.specs.Prelude.{◌||◌, ◌&&◌, not, ◌==◌}
 use Rattle.bash_grammar.specs.Bytes.{Text, starts, is_join, in_word, in_double, is_plain, is_escaped, unit_starts}
 use Rattle.bash_grammar.specs.Tokens.{◌>>=◌}
 use Rattle.bash_grammar.specs.Bodies.{Owed, Mode, unquoted, single, doubled, kept, kept_doubled, joined, joined_doubled, Read, with_quote, with, opens_other, delimiter_from, delimiter_at, may_end, delimiter_for, line_from, Place, line_start, within, join_at_start, join_within, kept_byte, Lines, last_line, or_further, with_byte, is_start, join_of, behind_byte, body_from, body_at}
 use Rattle.bash_grammar.specs.State.{State, Found}
 use Rattle.bash_grammar.specs.Steps.{found_of, bodies_at}
-use Rattle.bash_grammar.proofs.Tools.{chosen, If, weaker, then}
+use Rattle.bash_grammar.proofs.Tools.{chosen, If, then}
 use Rattle.bash_grammar.proofs.Heads.{Rest}
 
 -- ---- delimiters

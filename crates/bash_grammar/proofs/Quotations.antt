@@ -1,5 +1,5 @@
 -- What is left behind `'..'` and `$'..'`.
-use Rattle.std.proofs.Common.{ℕ, suc, ◌+◌, ◌≤◌, Bool, cond, [], ◌∷◌, length, Option, Some, None, arith}
+use Rattle.std.proofs.Common.{ℕ, suc, ◌+◌, ◌≤◌, cond, [], ◌∷◌, length, Option, Some, None, arith}
 use Rattle.std.specs.Prelude.{◌-◌, ◌*◌, ◌&&◌, ◌==◌, nat_le}
 use Rattle.bash_grammar.specs.Bytes.{Text, clear}
 use Rattle.bash_grammar.specs.Quotes.{quoted_run, Ansi, Escape, outside, kept, octal, hexadecimal, says, is_bad, says_value, letter, is_octal, digit_of, cased, ordinary, ansi_from}

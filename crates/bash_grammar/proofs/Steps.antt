@@ -1,24 +1,24 @@
 -- A step leaves no more bytes than there were, and fewer where it is said to take one.
-use Rattle.std.proofs.Common.{◌≡◌, ℕ, ◌+◌, ◌≤◌, Bool, true, false, [], ◌∷◌, length, Option, Some, None, refl, arith}
+use Rattle.std.proofs.Common.{◌≡◌, ◌+◌, ◌≤◌, [], ◌∷◌, length, Option, Some, None, refl, arith}
 use Rattle.std.specs.Prelude.{◌&&◌, nat_lt}
-use Rattle.text_grammar.specs.Grammar.{Leaf, quiet, said}
+use Rattle.text_grammar.specs.Grammar.{Leaf, quiet}
 use Rattle.text_grammar.specs.Language.{one_if}
-use Rattle.bash_grammar.specs.Shape.{FillTest, ReplaceAt, locale_quote, nested_quote, extended_glob}
+use Rattle.bash_grammar.specs.Shape.{locale_quote, nested_quote, extended_glob}
 use Rattle.bash_grammar.specs.Bytes.{Text, clear, gap, literal_in, name_run, unit_starts, in_word}
-use Rattle.bash_grammar.specs.Quotes.{Ansi, quoted_run, outside, ansi_from}
+use Rattle.bash_grammar.specs.Quotes.{quoted_run, outside, ansi_from}
 use Rattle.bash_grammar.specs.Tokens.{◌>>=◌, behind, End, Newline, Amp, Io, token, is_token, literal_word, is_key, is_word_of, is_angle_token, name_at, tilde_at}
-use Rattle.bash_grammar.specs.Heads.{Special, behind_two, dollar_name, brace_name, length_name, pointed_name, brace_special, dollar_sum, members_at, names_at, fill_at, trim_at, case_at, replace_at, transform_at, slice_at}
+use Rattle.bash_grammar.specs.Heads.{behind_two, dollar_name, brace_name, length_name, pointed_name, brace_special, dollar_sum, members_at, names_at, fill_at, trim_at, case_at, replace_at, transform_at, slice_at}
 use Rattle.bash_grammar.specs.State.{State, move, ahead}
 use Rattle.bash_grammar.specs.Sums.{level_of, open_frame, close_frame, begin_operand as begin_in, end_operand as end_in, stretch_run}
 use Rattle.bash_grammar.specs.Nodes.{Node}
 use Rattle.bash_grammar.specs.Moves.{Step, op, key, line, ends, ampersand, pipe, item_op, test_op, option, name, assign_name, assign_op, digit, far, redirect_op, here_document, from_token, from_unit, to_here, to_word, to_regex, byte, tilde, literal, escaped, exact, ansi, nested_exact, nested_ansi, lone_quote, lone_ansi, lone_locale, open_locale, dollar, open_subst, open_process, lone_glob, open_old, open_glob, open_group, close_group, odd_ticks, open_ticks, close_ticks, open_length, open_pointed, open_named, open_special, members, open_key, names, fill_op, trim_op, case_op, replace_op, slice_op, transform_op, open_sum, open_double, close_double, begin_sum, end_sum, sum_bytes, begin_operand, end_operand, enter, leave}
-use Rattle.bash_grammar.specs.Steps.{Known, limit, Read, name_read, flag_text, word_place, ansi_read, behind_sign, ticks_at, equals_at, none_owed, run_step}
+use Rattle.bash_grammar.specs.Steps.{Known, limit, name_read, flag_text, word_place, behind_sign, ticks_at, equals_at, none_owed, run_step}
 use Rattle.bash_grammar.specs.Depths.{op_takes, step_takes}
 use Rattle.bash_grammar.proofs.Tools as tools
 use Rattle.bash_grammar.proofs.Tools.{chosen, chosen_by, then, if_some}
 use Rattle.bash_grammar.proofs.Lengths.{clear_fits, gap_fits, literal_fits, literal_in_fits, name_run_fits}
 use Rattle.bash_grammar.proofs.Fronts.{token_fits, found_fits}
-use Rattle.bash_grammar.proofs.Heads.{Within, Left, Rest, RestLeft, behind_clear, behind_two_fits, name_fits, tilde_fits, equals_fits, dollar_name_fits, brace_name_fits, length_name_fits, pointed_name_fits, brace_special_fits, dollar_sum_fits, members_fits, names_fits, fill_fits, trim_fits, case_fits, replace_fits, transform_fits, slice_fits}
+use Rattle.bash_grammar.proofs.Heads.{Within, Left, RestLeft, behind_clear, behind_two_fits, name_fits, tilde_fits, equals_fits, dollar_name_fits, brace_name_fits, length_name_fits, pointed_name_fits, brace_special_fits, dollar_sum_fits, members_fits, names_fits, fill_fits, trim_fits, case_fits, replace_fits, transform_fits, slice_fits}
 use Rattle.bash_grammar.proofs.Quotations.{AnsiWithin, ansi_left, quoted_left}
 use Rattle.bash_grammar.proofs.Leaves.{Gives, on, kept, moved, framed_left, name_left, or_short_left, pipe_left, item_left, test_left, angle_left, digit_left, far_within, redirect_left, place_within, key_left, flag_left, here_left, line_left, literal_left, byte_left, lone_left, lone_two_left, sign_left, ticks_twice, into_left, out_left, sum_within, stretch_fits, stretch_left}
 

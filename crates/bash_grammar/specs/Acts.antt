@@ -1,12 +1,12 @@
 -- What each rule makes of what was read below it.
-use Rattle.std.specs.Prelude.{ℕ, zero, Bool, true, false, ◌&&◌, ◌||◌, ◌==◌, List, [], ◌∷◌, Option, Some, None, if◌then◌else◌, codes}
+use Rattle.std.specs.Prelude.{ℕ, zero, Bool, true, false, ◌&&◌, List, [], ◌∷◌, Option, Some, None, if◌then◌else◌, codes}
 use Rattle.span_text.specs.declared.span.Span.{Span}
 use Rattle.span_text.specs.Names.{is_name}
 use Rattle.span_text.specs.KnownNames.{same_text}
-use Rattle.bash_grammar.specs.Shape.{Code, arith_form, case_pattern, descriptor, error_expansion, extended_glob, function_name, indirect, locale_quote, old_arithmetic, process_substitution, read_substitution, regex_test as regex_code, reserved_command, special_parameter, Name, RedirectOp, refused_op, read, Part, plain, double, param as param_part, subst as subst_part, arith_part, compound as list_part, refused_part, Parts, no_part, part as next_part, Word, word as a_word, Words, no_word, Arith, MaybeArith, no_arith, some_arith, Subscript, index as both_index, key_only, MaybeSubscript, no_subscript, some_subscript, Param, named, member, members as members_of, ParamOp, as_is, length_of, keys as keys_of, fill as fill_of, trim as trim_of, slice as slice_of, replace as replace_of, casing as casing_of, Value, no_value, items_value, Element, element as element_of, Assign, assign as assign_of, no_assign, Redirects, no_redirect, redirect as next_redirect, Command, command as command_of, Kind, simple, group as group_of, subshell as subshell_of, branching, loop, walk, arith_loop, cases, arith_command, conditional as conditional_of, function as function_of, refused_command, listed, Cond, text_cond, unary_cond, binary_cond, no_stage, stage as next_stage, pipeline as pipeline_of, no_link, chain as chain_of, Script, no_chain, next_chain}
-use Rattle.bash_grammar.specs.Heads.{Subject, known, refused}
-use Rattle.bash_grammar.specs.Nodes.{Node, mark_node, name_node, unit_node, code_node, code_at_node, part_node, operand_node, sum_node, bad_node, arith_node, subject_node, members_node, index_node, fill_node, trim_node, case_node, replace_node, operation_node, word_node, op_node, aimed_node, redirect_node, value_node, element_node, assign_node, kind_node, command_node, bang_node, pipeline_node, and_node, or_node, chain_node, script_node, branch_node, else_node, listed_node, item_node, test_node, cond_node, parts_in, words_in, operands_in, elements_in, assigns_in, redirects_in, stages_in, both_in, links_in, chains_in, branches_in, items_in, ors_in, ands_in, joined_in, negated_in, slots_in, slot_of, rest_of, span_in, name_in, has_name, digit_in, has_far, nowhere, word_in, second_word_in, value_in, index_in, append_in, script_in, second_script_in, has_bang, else_in, listed_in, end_in, kind_in, command_in, has_command, pipeline_in, operation_in, code_in, bad_in, arith_in}
-use Rattle.bash_grammar.specs.Table.{Rule, list, maybe_list, chain, and_link, or_link, pipeline, bang, compound_command, group, subshell, sum_command, if_command, if_branch, else_part, while_loop, until_loop, for_loop, for_in, section, last_section, select_loop, case_command, case_item, function_command, time_command, coproc_command, conditional, cond_or, cond_and, cond_not, unary, binary, regex_test, regex, simple_body, calling, declaring, list_word, assign, elements, element, element_value, redirect, target, file, word, value, tilde_part, pattern, part, double_quotes, locale, process, glob, old, subst, ticks, length_braces, pointed_braces, valued_braces, special_braces, subscript, key_operand, fill, trim, casing, replace, slice, offset, slice_length, braced, sum, sum_operand, body_parts}
+use Rattle.bash_grammar.specs.Shape.{Code, arith_form, case_pattern, descriptor, error_expansion, extended_glob, function_name, indirect, locale_quote, old_arithmetic, process_substitution, read_substitution, regex_test as regex_code, reserved_command, special_parameter, Name, RedirectOp, refused_op, read, Part, plain, double, param as param_part, subst as subst_part, arith_part, compound as list_part, refused_part, no_part, part as next_part, Word, word as a_word, no_word, MaybeArith, some_arith, index as both_index, key_only, MaybeSubscript, no_subscript, some_subscript, Param, named, member, members as members_of, ParamOp, as_is, length_of, keys as keys_of, fill as fill_of, trim as trim_of, slice as slice_of, replace as replace_of, casing as casing_of, items_value, element as element_of, Assign, assign as assign_of, no_assign, Redirects, no_redirect, redirect as next_redirect, Command, command as command_of, Kind, simple, group as group_of, subshell as subshell_of, branching, loop, walk, arith_loop, cases, arith_command, conditional as conditional_of, function as function_of, refused_command, listed, Cond, text_cond, unary_cond, binary_cond, no_stage, stage as next_stage, pipeline as pipeline_of, no_link, chain as chain_of, Script, no_chain, next_chain}
+use Rattle.bash_grammar.specs.Heads.{known, refused}
+use Rattle.bash_grammar.specs.Nodes.{Node, unit_node, code_node, code_at_node, part_node, operand_node, bad_node, arith_node, subject_node, members_node, index_node, fill_node, trim_node, case_node, replace_node, operation_node, word_node, op_node, aimed_node, redirect_node, value_node, element_node, assign_node, kind_node, command_node, bang_node, pipeline_node, and_node, or_node, chain_node, script_node, branch_node, else_node, listed_node, item_node, test_node, cond_node, parts_in, words_in, operands_in, elements_in, assigns_in, redirects_in, stages_in, both_in, links_in, chains_in, branches_in, items_in, ors_in, ands_in, joined_in, negated_in, slots_in, slot_of, rest_of, span_in, name_in, has_name, digit_in, has_far, nowhere, word_in, second_word_in, value_in, index_in, append_in, script_in, second_script_in, has_bang, else_in, listed_in, end_in, kind_in, command_in, has_command, pipeline_in, operation_in, code_in, bad_in, arith_in}
+use Rattle.bash_grammar.specs.Table.{Rule, list, maybe_list, chain, and_link, or_link, pipeline, bang, compound_command, group, subshell, sum_command, if_command, if_branch, else_part, while_loop, until_loop, for_loop, for_in, section, last_section, select_loop, case_command, case_item, function_command, time_command, coproc_command, conditional, cond_or, cond_and, cond_not, unary, binary, regex_test, regex, simple_body, calling, declaring, list_word, assign, elements, element, element_value, redirect, file, word, value, tilde_part, pattern, part, double_quotes, locale, process, glob, old, subst, ticks, length_braces, pointed_braces, valued_braces, special_braces, subscript, key_operand, fill, trim, casing, replace, slice, offset, slice_length, braced, sum, sum_operand, body_parts}
 
 abbrev a : Kind → List Node
 a k = kind_node k ∷ []

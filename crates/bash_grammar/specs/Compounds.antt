@@ -1,5 +1,5 @@
 -- Texts and their scripts, worked out by the table: compound commands and functions.
-use Rattle.std.specs.Prelude.{◌≡◌, ℕ, List, [], ◌∷◌, map, Option, Some, None, refl, codes}
+use Rattle.std.specs.Prelude.{◌≡◌, List, [], ◌∷◌, map, Option, Some, None, refl, codes}
 use Rattle.span_text.specs.Constant.{number_of}
 use Rattle.span_text.specs.ExprTokens.{sign_of, longer, is_gap}
 use Rattle.span_text.specs.Names.{begins_name, continues_name}

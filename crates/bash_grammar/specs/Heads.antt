@@ -1,8 +1,8 @@
 -- What stands behind a `$` (Bash manual, sections 3.1.2, 3.4, 3.5.3, 3.5.4, 3.5.5).
-use Rattle.std.specs.Prelude.{ℕ, Bool, true, false, ◌||◌, ◌&&◌, not, ◌==◌, List, [], ◌∷◌, Option, Some, None, if◌then◌else◌}
+use Rattle.std.specs.Prelude.{ℕ, Bool, true, false, ◌||◌, ◌&&◌, not, ◌==◌, [], ◌∷◌, Option, Some, None, if◌then◌else◌}
 use Rattle.span_text.specs.Names.{begins_name, is_digit}
 use Rattle.bash_grammar.specs.Shape.{Code, indirect, special_parameter, FillTest, default, assigning, alternate, ReplaceAt, at_first, at_all, at_start, at_end, Param, digits, count, status, at, star}
-use Rattle.bash_grammar.specs.Bytes.{Text, Spot, is_quotes, clear, starts, byte_next, is_special_param, name_run, digit_run, expands, quotes_dollar}
+use Rattle.bash_grammar.specs.Bytes.{Text, Spot, is_quotes, clear, starts, byte_next, is_special_param, digit_run, expands}
 use Rattle.bash_grammar.specs.Tokens.{◌>>=◌, behind, is_something}
 
 -- a parameter, or what is refused in its place

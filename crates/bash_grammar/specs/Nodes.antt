@@ -1,8 +1,8 @@
 -- What was read: the nodes that steps and rules give, and those of one kind among them.
-use Rattle.std.specs.Prelude.{ℕ, suc, Bool, true, false, ◌&&◌, List, [], ◌∷◌, Option, Some, None, if◌then◌else◌}
+use Rattle.std.specs.Prelude.{ℕ, Bool, true, false, List, [], ◌∷◌, Option, Some, None}
 use Rattle.span_text.specs.declared.expr.Expr.{Expr}
 use Rattle.span_text.specs.declared.span.Span.{Span}
-use Rattle.bash_grammar.specs.Shape.{Code, Name, TestOp, FillTest, ReplaceAt, ItemEnd, stop, RedirectOp, Part, plain, Parts, no_part, part, Word, word, Words, no_word, next_word, Arith, arith, MaybeArith, no_arith, some_arith, Subscript, MaybeSubscript, no_subscript, some_subscript, ParamOp, as_is, Value, no_value, value, Element, Elements, no_element, next_element, Assign, Assigns, no_assign, next_assign, Redirects, no_redirect, redirect, Command, command, Kind, group, Branches, no_branch, branch, Otherwise, no_else, otherwise, ForWords, parameters, Items, no_item, item, Cond, or_cond, and_cond, not_cond, Stages, no_stage, stage, Pipeline, pipeline, Links, no_link, and_link, or_link, Chain, Script, no_chain, next_chain}
+use Rattle.bash_grammar.specs.Shape.{Code, Name, TestOp, FillTest, ReplaceAt, ItemEnd, stop, RedirectOp, Part, Parts, no_part, part, Word, word, Words, no_word, next_word, Arith, arith, MaybeArith, no_arith, some_arith, Subscript, MaybeSubscript, no_subscript, some_subscript, ParamOp, as_is, Value, no_value, value, Element, Elements, no_element, next_element, Assign, Assigns, no_assign, next_assign, Redirects, no_redirect, redirect, Command, command, Kind, group, Branches, no_branch, branch, Otherwise, no_else, otherwise, ForWords, parameters, Items, no_item, item, Cond, or_cond, and_cond, not_cond, Stages, no_stage, stage, Pipeline, pipeline, Links, no_link, and_link, or_link, Chain, Script, no_chain, next_chain}
 use Rattle.bash_grammar.specs.Heads.{Subject}
 
 pub data Node : Type 0 where

@@ -5,7 +5,7 @@ use Rattle.text_grammar.specs.Later.{next_with}
 use Rattle.text_grammar.specs.Place.{front}
 use Rattle.bash_grammar.specs.Bytes.{Text, gap}
 use Rattle.bash_grammar.specs.Tokens.{◌>>=◌}
-use Rattle.bash_grammar.specs.State.{State, fresh, ahead}
+use Rattle.bash_grammar.specs.State.{State, fresh}
 use Rattle.bash_grammar.specs.Nodes.{Node}
 use Rattle.bash_grammar.specs.Table.{piece, line_piece}
 use Rattle.bash_grammar.specs.Spelling.{bash_with}
@@ -31,4 +31,4 @@ nodes_from s = nodes_in (suc (length s.bytes)) s
 
 -- where the last piece that reads ends
 unfoldable pub stop_from : State → State
-stop_from s = front ahead next_piece s
+stop_from s = front (λ (e : State). length e.bytes) next_piece s

@@ -1,5 +1,5 @@
 -- What stands between `'..'` and between `$'..'` (Bash manual, sections 3.1.2.2 and 3.1.2.4).
-use Rattle.std.specs.Prelude.{ℕ, suc, ◌+◌, ◌-◌, ◌*◌, Bool, ◌||◌, ◌&&◌, ◌==◌, nat_le, List, [], ◌∷◌, length, Option, Some, None, if◌then◌else◌}
+use Rattle.std.specs.Prelude.{ℕ, suc, ◌+◌, ◌-◌, ◌*◌, Bool, ◌&&◌, ◌==◌, nat_le, [], ◌∷◌, length, Option, Some, None, if◌then◌else◌}
 use Rattle.bash_grammar.specs.Bytes.{Text}
 
 infixl 10 ◌>>=◌

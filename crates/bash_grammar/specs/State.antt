@@ -1,7 +1,7 @@
 -- Where reading is.
 use Rattle.std.specs.Prelude.{ℕ, zero, suc, ◌+◌, ◌-◌, List, [], ◌∷◌, length}
 use Rattle.span_text.specs.declared.span.Span.{Span}
-use Rattle.bash_grammar.specs.Bytes.{Text, clear, gap}
+use Rattle.bash_grammar.specs.Bytes.{Text}
 use Rattle.bash_grammar.specs.Bodies.{Owed}
 
 -- a body that came, with the number of its here-document, and the offset of each byte and of its end

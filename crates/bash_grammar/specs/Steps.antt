@@ -1,14 +1,12 @@
 -- What each step reads.
-use Rattle.std.specs.Prelude.{ℕ, zero, suc, ◌+◌, ◌-◌, Bool, true, false, ◌||◌, ◌&&◌, not, ◌==◌, nat_lt, List, [], ◌∷◌, ◌++◌, length, drop, map, Option, Some, None, if◌then◌else◌, codes}
-use Rattle.std.specs.List.{list_any}
-use Rattle.span_text.specs.declared.expr.Expr.{Expr}
+use Rattle.std.specs.Prelude.{ℕ, suc, ◌+◌, ◌-◌, Bool, true, false, ◌&&◌, ◌==◌, nat_lt, List, [], ◌∷◌, ◌++◌, length, drop, map, Option, Some, None, if◌then◌else◌, codes}
 use Rattle.span_text.specs.declared.span.Span.{Span}
 use Rattle.span_text.specs.KnownNames.{same_text}
 use Rattle.text_grammar.specs.Grammar.{Leaf, quiet, said}
-use Rattle.bash_grammar.specs.Shape.{Code, Name, TestOp, Part, plain, exact as exact_part, tilde as tilde_part, param, as_is, named, digits, Parts, no_part, part, Word, word, RedirectOp, read, write, append, here_literal, here_expanded, here_string, copy_in, copy_out, both_out, both_append, refused_op, ItemEnd, stop, fall, test_on, special_parameter, extended_glob, locale_quote, nested_quote, ansi_escape, backquote, read_write, indirect}
-use Rattle.bash_grammar.specs.Bytes.{Text, Context, in_word, clear, gap, starts, byte_next, literal_in, unit_starts, name_run, is_angle}
+use Rattle.bash_grammar.specs.Shape.{Code, Name, plain, exact as exact_part, tilde as tilde_part, param, as_is, named, Parts, no_part, part, Word, word, read, write, append, here_literal, here_expanded, here_string, copy_in, copy_out, both_out, both_append, refused_op, stop, fall, test_on, special_parameter, extended_glob, locale_quote, nested_quote, ansi_escape, backquote, read_write, indirect}
+use Rattle.bash_grammar.specs.Bytes.{Text, in_word, clear, gap, byte_next, literal_in, unit_starts, name_run}
 use Rattle.bash_grammar.specs.Quotes.{quoted_run, Ansi, outside, ansi_from}
-use Rattle.bash_grammar.specs.Tokens.{◌>>=◌, behind, Op, End, Newline, Semi, SemiSemi, SemiAnd, SemiSemiAnd, Amp, Pipe, PipeAnd, Open, Less, Great, Clobber, DGreat, DLess, DLessDash, TLess, LessAnd, GreatAnd, LessGreat, AndGreat, AndDGreat, Io, Far, Word as WordToken, token, is_token, literal_word, is_key, is_word_of, unary_tests, binary_tests, is_angle_token, name_at, tilde_at}
+use Rattle.bash_grammar.specs.Tokens.{◌>>=◌, behind, Op, End, Newline, SemiSemi, SemiAnd, SemiSemiAnd, Amp, Pipe, PipeAnd, Less, Great, Clobber, DGreat, DLess, DLessDash, TLess, LessAnd, GreatAnd, LessGreat, AndGreat, AndDGreat, Io, Far, Word as WordToken, token, is_token, literal_word, is_key, is_word_of, is_angle_token, name_at, tilde_at}
 use Rattle.bash_grammar.specs.Heads.{Subject, known, refused, Special, tail, behind_two, dollar_name, dollar_short, brace_name, length_name, pointed_name, brace_special, dollar_sum, members_at, names_at, fill_at, trim_at, case_at, replace_at, transform_at, slice_at}
 use Rattle.bash_grammar.specs.Bodies.{Owed, Lines, delimiter_for, body_at}
 use Rattle.bash_grammar.specs.State.{State, Found, Outer, Frame, move, nth, offset, behind_quotes, place_of, place_behind, span_at}

@@ -1,9 +1,7 @@
 -- Arithmetic expressions (Bash manual, section 6.5): which of their bytes and operands spell one, which names it uses, and
 -- where it assigns.
-use Rattle.std.specs.Prelude.{ℕ, zero, suc, ◌+◌, ◌-◌, Bool, true, false, ◌&&◌, ◌||◌, not, ◌==◌, nat_lt, List, [], ◌∷◌, ◌++◌, length, take, Option, Some, None, if◌then◌else◌}
-use Rattle.std.specs.List.{list_all}
+use Rattle.std.specs.Prelude.{ℕ, suc, ◌+◌, ◌-◌, Bool, true, false, ◌&&◌, ◌||◌, not, ◌==◌, List, [], ◌∷◌, ◌++◌, length, take, Option, Some, None, if◌then◌else◌}
 use Rattle.span_text.specs.declared.expr.Expr.{Expr}
-use Rattle.span_text.specs.declared.sign.Sign.{Sign}
 use Rattle.span_text.specs.declared.sign.Sign.TheVariants.{Assign, Increment, Decrement, EndIndex}
 use Rattle.span_text.specs.declared.span.Span.{Span}
 use Rattle.span_text.specs.Names.{is_digit}
@@ -13,7 +11,7 @@ use Rattle.arith64.specs.Reader.{read_cells, at_start}
 use Rattle.bash_grammar.specs.Shape.{Name}
 use Rattle.bash_grammar.specs.Bytes.{Text, is_bare_dollar, quotes, level_behind}
 use Rattle.bash_grammar.specs.Tokens.{◌>>=◌}
-use Rattle.bash_grammar.specs.State.{Frame, State, place_of, place_behind}
+use Rattle.bash_grammar.specs.State.{Frame}
 
 -- ---- bytes
 

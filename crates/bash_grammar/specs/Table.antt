@@ -2,7 +2,7 @@
 use Rattle.std.specs.Prelude.{true, false}
 use Rattle.text_grammar.specs.Grammar.{Grammar, pass, fail, step, choose, star, rule, ◌then◌}
 use Rattle.bash_grammar.specs.Bytes.{Context, context, in_word, in_double, inner, inner_pattern, inner_sum, bare, quotes, in_body, fills, patterns, firsts, seconds, keys, brackets, groups, regexes}
-use Rattle.bash_grammar.specs.Tokens.{Op, Newline, Semi, Amp, AndIf, OrIf, Pipe, Open, Close, Io, Far, Word, Key, If, Then, Elif, Else, Fi, For, In, Until, While, Do, Done, Case, Esac, Select, Function, Time, Coproc, OpenBrace, CloseBrace, OpenCond, CloseCond, Bang}
+use Rattle.bash_grammar.specs.Tokens.{Newline, Semi, Amp, AndIf, OrIf, Pipe, Open, Close, Io, Far, Word, If, Then, Elif, Else, Fi, For, In, Until, While, Do, Done, Case, Esac, Select, Function, Time, Coproc, OpenBrace, CloseBrace, OpenCond, CloseCond, Bang}
 use Rattle.bash_grammar.specs.Sums.{Stretch, to_close, to_semi, to_colon, to_brace}
 use Rattle.bash_grammar.specs.Moves.{Step, Test, posix, last_flag, op, key, line, ends, ampersand, pipe, item_op, test_op, option, name, assign_name, assign_op, digit, far, redirect_op, here_document, from_token, from_unit, to_here, to_word, to_regex, byte, tilde, literal, escaped, exact, ansi, nested_exact, nested_ansi, lone_quote, lone_ansi, lone_locale, open_locale, dollar, open_subst, open_process, lone_glob, open_old, open_glob, open_group, close_group, odd_ticks, open_ticks, close_ticks, open_length, open_pointed, open_named, open_special, members, open_key, names, fill_op, trim_op, case_op, replace_op, slice_op, transform_op, open_sum, open_double, close_double, begin_sum, end_sum, sum_bytes, begin_operand, end_operand, enter, leave, next, key_next, byte_begins, separates, list_goes_on, goes_on, links, pipes, item_ends, pipeline_begins, command_begins, compound_begins, other_begins, simple_begins, double_begins, parens_begin, option_begins, time_ends, declare_begins, redirect_begins, here_begins, prefix_begins, suffix_begins, list_begins, indexed_begins, item_begins, unary_begins, binary_begins, regex_begins, cond_word_begins, regex_word_begins, regex_goes_on, tilde_begins, unit_begins, quote_begins, exact_begins, double_quote_begins, escape_begins, pair_begins, dollar_begins, expansion_begins, locale_begins, lone_locale_begins, ansi_begins, ansi_pair_begins, other_unit_begins, tick_begins, odd_tick_begins, process_begins, in_command, sum_begins, subst_begins, brace_begins, old_begins, length_begins, pointed_begins, named_begins, members_begin, names_begin, fill_begins, trim_begins, case_begins, slice_begins, sum_goes_on, sum_opens, sum_expands}
 

@@ -1,7 +1,6 @@
 -- When each test holds.
 use Rattle.std.specs.Prelude.{ℕ, Bool, true, false, ◌||◌, ◌&&◌, not, ◌==◌, [], ◌∷◌, Option, Some, None, if◌then◌else◌}
-use Rattle.span_text.specs.Names.{begins_name}
-use Rattle.bash_grammar.specs.Bytes.{Text, Context, Spot, words, seconds, in_word, is_bare, is_body, is_quotes, clear, gap, starts, byte_next, is_quote, is_escaped, expands, quotes_dollar, opens_glob, opens_process, unit_starts, unit_starts_in, counts}
+use Rattle.bash_grammar.specs.Bytes.{Text, Context, Spot, words, seconds, is_bare, is_body, is_quotes, clear, gap, starts, byte_next, is_quote, is_escaped, expands, quotes_dollar, opens_glob, opens_process, unit_starts, unit_starts_in}
 use Rattle.bash_grammar.specs.Tokens.{◌>>=◌, behind, is_something, End, Newline, Semi, SemiSemi, SemiAnd, SemiSemiAnd, Amp, AndIf, OrIf, Pipe, PipeAnd, Open, Word, token, is_token, Esac, CloseCond, is_key, is_word_of, declaring_words, command_words, unary_tests, binary_tests, is_angle_token, here_next, redirect_next, simple_next, compound_next, command_next, pipeline_next, sum_command_next, parens_next, name_at, tilde_next}
 use Rattle.bash_grammar.specs.Heads.{sum_next, subst_next, brace_next, old_next, ansi_next, locale_next, dollar_at, expansion_next, brace_name, length_name, pointed_name, members_at, names_at, fill_at, trim_at, case_at, slice_at}
 use Rattle.bash_grammar.specs.State.{State, move}

@@ -1,6 +1,6 @@
 -- Tokens: operators, reserved words, names (Bash manual, sections 2, 3.1.1, 3.2.1, 6.4).
 use Rattle.std.specs.Prelude.{ℕ, Bool, true, false, ◌||◌, ◌&&◌, not, ◌==◌, List, [], ◌∷◌, length, Option, Some, None, if◌then◌else◌, codes}
-use Rattle.span_text.specs.Names.{begins_name, is_digit, is_name}
+use Rattle.span_text.specs.Names.{begins_name, is_digit}
 use Rattle.span_text.specs.KnownNames.{same_text, is_among}
 use Rattle.bash_grammar.specs.Bytes.{Text, clear, gap, starts, byte_next, in_word, is_angle, literal_run, unit_starts, name_run, digit_run}
 
