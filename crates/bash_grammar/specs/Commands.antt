@@ -48,6 +48,7 @@ simple_commands =
     (codes "a #b", Some (codes ". a;")) ∷
     (codes "a#b", Some (codes ". a#b;")) ∷
     (codes "a\\\nb", Some (codes ". ab;")) ∷
+    (codes "$a\\\nb", Some (codes ". ${ab};")) ∷
     (codes "a\\", None) ∷
     (codes "esac", None) ∷
     (codes "in", None) ∷
@@ -85,6 +86,8 @@ here_documents =
     (codes "a <<'E'\n$(\nE", Some (codes ". a <<'$(\n;")) ∷
     (codes "a <<-E\n\t$b\n\tE\n", Some (codes ". a <<${b}\n;")) ∷
     (codes "a <<E\nx\n", None) ∷
+    (codes "a <<E\nE", Some (codes ". a <<;")) ∷
+    (codes "a <<E\n\nE\nb", Some (codes ". a <<\n;. b;")) ∷
     (codes "a <<E; b <<F\n1\nE\n2\nF", Some (codes ". a <<1\n;. b <<2\n;")) ∷
     (codes "a <<E\n$(b <<F\nc\nF\n)\nE", Some (codes ". a <<$(. b <<c\n;)\n;")) ∷
     (codes "a `b <<E\nc\nE\n`", Some (codes ". a $(. b <<c\n;);")) ∷
