@@ -9,6 +9,7 @@ pub mod Steps
 pub mod Shallow
 pub mod Small
 pub mod Ends
+pub mod Outcomes
 pub mod Known
 pub mod Pieces
 pub mod Stuck

@@ -5,12 +5,11 @@ use Rattle.span_text.specs.declared.expr.Expr.{Expr}
 use Rattle.span_text.specs.declared.sign.Sign.TheVariants.{Assign, Increment, Decrement, EndIndex}
 use Rattle.span_text.specs.declared.span.Span.{Span}
 use Rattle.span_text.specs.Names.{is_digit}
-use Rattle.span_text.specs.ExprTokens.{Cell, byte, expansion, cells_of, without_joins, tokens, cell_at, is_last, without_first, is_byte, is_gap, Token, name, indexed, sign, Begun, gap, word, operator, whole, begun, grown, if_begun}
-use Rattle.arith64.specs.Parsing.{parsed}
-use Rattle.arith64.specs.Reader.{read_cells, at_start}
+use Rattle.span_text.specs.ExprTokens.{Cell, byte, expansion, cells_of, cell_at, is_last, without_first, is_byte, is_gap, Token, name, indexed, sign, Begun, gap, word, operator, whole, begun, grown, if_begun}
+use Rattle.arith64.specs.Parsing.{◌>>=◌}
+use Rattle.arith64.specs.Reader.{read_cells, read_end, at_start}
 use Rattle.bash_grammar.specs.Shape.{Name}
 use Rattle.bash_grammar.specs.Bytes.{Text, is_bare_dollar, quotes, level_behind}
-use Rattle.bash_grammar.specs.Tokens.{◌>>=◌}
 use Rattle.bash_grammar.specs.State.{Frame}
 
 -- ---- bytes
@@ -116,21 +115,23 @@ abbrev pub is_none : {A : Type 0} → Option A → Bool
 is_none None = true
 is_none (Some x) = false
 
--- The offset of the first cell with which no expression begins, behind those before it; or of the end.
-abbrev pub spoiled_from : List Cell → List Placed → ℕ → ℕ
-spoiled_from before [] end = end
-spoiled_from before (p ∷ ps) end = if is_none (read_cells at_start (before ++ p.cell ∷ [])) then p.from else spoiled_from (before ++ p.cell ∷ []) ps end
+-- The offset of the first byte with which no expression begins, behind those before it; or of the end. As in `cells_from`,
+-- there is the number of the first span, and the spans that have not ended; and there are the cells so far.
+abbrev pub spoiled_from : ℕ → ℕ → List Span → List Cell → Text → ℕ
+spoiled_from at number spans before [] = at
+spoiled_from at number spans before (b ∷ bs) = if is_none (read_cells at_start (before ++ cell_at at number spans b)) then at
+    else (if is_last at spans then spoiled_from (at + 1) (number + 1) (without_first spans) (before ++ cell_at at number spans b) bs else spoiled_from (at + 1) number spans (before ++ cell_at at number spans b) bs)
+
+abbrev pub expression : List Cell → Option Expr
+expression cells = read_cells at_start cells >>= read_end
 
 abbrev pub or_spoiled : Option Expr → ℕ → Outcome
 or_spoiled (Some e) at = spelled e
 or_spoiled None at = spoiled at
 
-abbrev pub expression : List Cell → Option Expr
-expression cells = tokens gap (without_joins false cells) >>= λ ts. parsed ts
-
 -- The expression of the text, whose expansions have these spans, or the place where it goes wrong
 unfoldable pub outcome : Text → List Span → Outcome
-outcome text operands = or_spoiled (expression (cells_of text operands)) (spoiled_from [] (placed_from 0 0 operands text) (length text))
+outcome text operands = or_spoiled (expression (cells_of text operands)) (spoiled_from 0 0 operands [] text)
 
 -- ---- its tokens and their spans
 

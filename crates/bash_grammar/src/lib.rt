@@ -8,4 +8,4 @@
 
 mod laws;
 
-pub use laws::{one_place, one_script, piecewise};
+pub use laws::{expressions, one_place, one_script, piecewise};
