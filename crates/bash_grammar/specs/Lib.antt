@@ -21,3 +21,6 @@ pub mod Compounds
 pub mod Words
 pub mod Errors
 pub mod Places
+pub mod Operators
+pub mod Modes
+pub mod Productions

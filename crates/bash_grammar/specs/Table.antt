@@ -300,8 +300,8 @@ body suffix_item = choose redirect_begins (rule redirect) (rule word)
 -- assignment: NAME subscript? ('=' | '+=') (elements | value?)
 body assign = step from_token then step assign_name then choose (byte_begins 91) (rule (subscript in_word)) pass then step assign_op then rule assigned then step to_here
 body assigned = choose (byte_begins 40) (rule elements) (choose (unit_begins in_word) (rule value) pass)
--- elements: '(' newline* (element newline*)* ')'; element: subscript '=' word? | word
-body elements = step (byte 40) then rule lines then star (next Word) (rule element_item) then step (op Close)
+-- elements: '(' newline* (element newline*)* ')', and the word ends there; element: subscript '=' word? | word
+body elements = step (byte 40) then rule lines then star (next Word) (rule element_item) then step (op Close) then choose (unit_begins in_word) fail pass
 body element_item = rule element then rule lines
 body element = step from_token then choose indexed_begins (rule indexed) (rule pattern) then step to_here
 body indexed = step to_word then rule (subscript in_word) then step (byte 61) then choose (unit_begins in_word) (rule element_value) pass
