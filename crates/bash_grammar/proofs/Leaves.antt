@@ -5,7 +5,7 @@ use Rattle.std.specs.Prelude.{◌&&◌, not, ◌==◌, codes}
 use Rattle.text_grammar.specs.Grammar.{Leaf, quiet, said}
 use Rattle.span_text.specs.KnownNames.{same_text, is_among}
 use Rattle.bash_grammar.specs.Shape.{Code}
-use Rattle.bash_grammar.specs.Bytes.{Text, clear, gap, in_word, name_run}
+use Rattle.bash_grammar.specs.Bytes.{Text, Quoting, clear, gap, in_word, name_run}
 use Rattle.bash_grammar.specs.Tokens.{◌>>=◌, behind, Op, Pipe, PipeAnd, SemiSemi, SemiAnd, SemiSemiAnd, Less, Great, Clobber, DGreat, DLess, DLessDash, TLess, LessAnd, GreatAnd, LessGreat, AndGreat, AndDGreat, Far, Word, Key, If, Then, Elif, Else, Fi, For, In, Until, While, Do, Done, Case, Esac, Select, Function, Time, Coproc, OpenBrace, CloseBrace, OpenCond, CloseCond, Bang, key_text, literal_word, is_whole, is_key, is_word_of, is_token}
 use Rattle.bash_grammar.specs.Heads.{Subject, known, refused, dollar_short}
 use Rattle.bash_grammar.specs.Bodies.{delimiter_for}
@@ -232,9 +232,9 @@ out_left s (o ∷ os) e = let same : behind_quotes s.outer ≡ suc (length o.byt
 
 -- ---- expressions
 
-pub sum_within : (s : State) (optional : Bool) (fs : List Frame) → Gives s 0 (sum_read s optional fs)
-sum_within s optional [] = tt
-sum_within s optional (f ∷ fs) = kept s (record s { frames = fs }) 0 refl (omega arith)
+pub sum_within : (s : State) (optional : Bool) (q : Quoting) (fs : List Frame) → Gives s 0 (sum_read s optional q fs)
+sum_within s optional q [] = tt
+sum_within s optional q (f ∷ fs) = kept s (record s { frames = fs }) 0 refl (omega arith)
 
 stretch_from_fits : (n : ℕ) (s : Stretch) (level : ℕ) (bs : Text) → length bs ≤ n → length (stretch_from s level bs).0 ≤ n
 stretch_from_fits n s level [] le = le

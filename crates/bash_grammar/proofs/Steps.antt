@@ -106,7 +106,7 @@ fits k open_sum s = byte_moved s quiet (dollar_sum s.bytes) (dollar_sum_fits s.b
 fits k open_double s = let g = gap_fits s.bytes in on s 1 (Left (length (gap s.bytes))) (behind_two 40 40 (gap s.bytes)) _ (behind_two_fits 40 40 (gap s.bytes)) (λ rest h. moved s 1 rest (omega arith))
 fits k close_double s = byte_moved s quiet (behind_two 41 41 s.bytes) (behind_two_fits 41 41 s.bytes)
 fits k begin_sum s = framed_left s 0 quiet (open_frame s.bytes s.frames) s.bytes (whole s)
-fits k (end_sum optional) s = sum_within s optional s.frames
+fits k (end_sum optional q) s = sum_within s optional q s.frames
 fits k (sum_bytes x) s = stretch_left s (stretch_run x (level_of s.frames) s.bytes) (stretch_fits x (level_of s.frames) s.bytes)
 fits k begin_operand s = framed_left s 0 quiet (begin_in (clear s.bytes) s.frames) s.bytes (whole s)
 fits k end_operand s = framed_left s 0 quiet (end_in s.bytes s.frames) s.bytes (whole s)

@@ -1,11 +1,11 @@
 -- What each rule makes of what was read below it.
-use Rattle.std.specs.Prelude.{ℕ, zero, Bool, true, false, ◌&&◌, List, [], ◌∷◌, Option, Some, None, if◌then◌else◌, codes}
+use Rattle.std.specs.Prelude.{◌==◌, ℕ, zero, Bool, true, false, ◌&&◌, List, [], ◌∷◌, Option, Some, None, if◌then◌else◌, codes}
 use Rattle.span_text.specs.declared.span.Span.{Span}
 use Rattle.span_text.specs.Names.{is_name}
 use Rattle.span_text.specs.KnownNames.{same_text}
-use Rattle.bash_grammar.specs.Shape.{Code, arith_form, case_pattern, descriptor, error_expansion, extended_glob, function_name, indirect, locale_quote, old_arithmetic, process_substitution, read_substitution, regex_test as regex_code, reserved_command, special_parameter, Name, RedirectOp, refused_op, read, Part, plain, double, param as param_part, subst as subst_part, arith_part, compound as list_part, refused_part, no_part, part as next_part, Word, word as a_word, no_word, MaybeArith, some_arith, index as both_index, key_only, MaybeSubscript, no_subscript, some_subscript, Param, named, member, members as members_of, ParamOp, as_is, length_of, keys as keys_of, fill as fill_of, trim as trim_of, slice as slice_of, replace as replace_of, casing as casing_of, items_value, element as element_of, Assign, assign as assign_of, no_assign, Redirects, no_redirect, redirect as next_redirect, Command, command as command_of, Kind, simple, group as group_of, subshell as subshell_of, branching, loop, walk, arith_loop, cases, arith_command, conditional as conditional_of, function as function_of, refused_command, listed, Cond, text_cond, unary_cond, binary_cond, no_stage, stage as next_stage, pipeline as pipeline_of, no_link, chain as chain_of, Script, no_chain, next_chain}
+use Rattle.bash_grammar.specs.Shape.{Code, case_pattern, descriptor, error_expansion, extended_glob, function_name, indirect, locale_quote, old_arithmetic, process_substitution, read_substitution, regex_test as regex_code, reserved_command, special_parameter, Name, RedirectOp, refused_op, read, Part, plain, double, param as param_part, subst as subst_part, arith_part, compound as list_part, refused_part, no_part, part as next_part, Word, word as a_word, no_word, MaybeArith, some_arith, index as both_index, key_only, MaybeSubscript, no_subscript, some_subscript, Param, named, member, members as members_of, ParamOp, as_is, length_of, keys as keys_of, fill as fill_of, trim as trim_of, slice as slice_of, replace as replace_of, casing as casing_of, items_value, element as element_of, Assign, assign as assign_of, no_assign, Redirects, no_redirect, redirect as next_redirect, Command, command as command_of, Kind, simple, group as group_of, subshell as subshell_of, branching, loop, walk, arith_loop, cases, arith_command, conditional as conditional_of, function as function_of, refused_command, listed, Cond, text_cond, unary_cond, binary_cond, no_stage, stage as next_stage, pipeline as pipeline_of, no_link, chain as chain_of, Script, no_chain, next_chain}
 use Rattle.bash_grammar.specs.Heads.{known, refused}
-use Rattle.bash_grammar.specs.Nodes.{Node, unit_node, code_node, code_at_node, part_node, operand_node, bad_node, arith_node, subject_node, members_node, index_node, fill_node, trim_node, case_node, replace_node, operation_node, word_node, op_node, aimed_node, redirect_node, value_node, element_node, assign_node, kind_node, command_node, bang_node, pipeline_node, and_node, or_node, chain_node, script_node, branch_node, else_node, listed_node, item_node, test_node, cond_node, parts_in, words_in, operands_in, elements_in, assigns_in, redirects_in, stages_in, both_in, links_in, chains_in, branches_in, items_in, ors_in, ands_in, joined_in, negated_in, slots_in, slot_of, rest_of, span_in, name_in, has_name, digit_in, has_far, nowhere, word_in, second_word_in, value_in, index_in, append_in, script_in, second_script_in, has_bang, else_in, listed_in, end_in, kind_in, command_in, has_command, pipeline_in, operation_in, code_in, bad_in, arith_in}
+use Rattle.bash_grammar.specs.Nodes.{Node, unit_node, code_node, code_at_node, part_node, operand_node, bad_node, arith_node, subject_node, members_node, index_node, fill_node, trim_node, case_node, replace_node, operation_node, word_node, op_node, aimed_node, redirect_node, value_node, element_node, assign_node, kind_node, command_node, bang_node, pipeline_node, and_node, or_node, chain_node, script_node, branch_node, else_node, listed_node, item_node, test_node, cond_node, parts_in, words_in, elements_in, assigns_in, redirects_in, stages_in, both_in, links_in, chains_in, branches_in, items_in, ors_in, ands_in, joined_in, negated_in, slots_in, slot_of, rest_of, span_in, name_in, has_name, digit_in, has_far, nowhere, word_in, second_word_in, value_in, index_in, append_in, script_in, second_script_in, has_bang, else_in, listed_in, end_in, kind_in, command_in, has_command, pipeline_in, operation_in, code_in, bad_in, arith_in}
 use Rattle.bash_grammar.specs.Table.{Rule, list, maybe_list, chain, and_link, or_link, pipeline, bang, compound_command, group, subshell, sum_command, if_command, if_branch, else_part, while_loop, until_loop, for_loop, for_in, section, last_section, select_loop, case_command, case_item, function_command, time_command, coproc_command, conditional, cond_or, cond_and, cond_not, unary, binary, regex_test, regex, simple_body, calling, declaring, list_word, assign, elements, element, element_value, redirect, file, word, value, tilde_part, pattern, part, double_quotes, locale, process, glob, old, subst, ticks, length_braces, pointed_braces, valued_braces, special_braces, subscript, key_operand, fill, trim, casing, replace, slice, offset, slice_length, braced, sum, sum_operand, body_parts}
 
 abbrev a : Kind → List Node
@@ -53,11 +53,11 @@ a_subst s = if reads_only s then code_node read_substitution ∷ [] else unit_no
 abbrev a_sum : List Node → List Node
 a_sum [] = []
 a_sum (arith_node e ∷ xs) = unit_node (arith_part e) ∷ []
-a_sum (bad_node at s ∷ xs) = code_at_node arith_form at ∷ []
+a_sum (bad_node c at s ∷ xs) = code_at_node c at ∷ []
 a_sum (x ∷ xs) = a_sum xs
 
-abbrev refused_from : Span → ℕ → Kind
-refused_from s at = refused_command arith_form (record s { from = at })
+abbrev refused_from : Span → Code → ℕ → Kind
+refused_from s c at = refused_command c (record s { from = at })
 
 abbrev to_end : ℕ → Span → Span
 to_end from s = record s { from = from }
@@ -66,11 +66,11 @@ to_end from s = record s { from = from }
 abbrev sum_kind : Span → List Node → List Node
 sum_kind s [] = []
 sum_kind s (arith_node e ∷ xs) = a (arith_command e)
-sum_kind s (bad_node at x ∷ xs) = a (refused_from s at)
+sum_kind s (bad_node c at x ∷ xs) = a (refused_from s c at)
 sum_kind s (x ∷ xs) = sum_kind s xs
 
-abbrev loop_kind : Option ℕ → Span → List MaybeArith → Script → Kind
-loop_kind (Some at) s slots body = refused_from s at
+abbrev loop_kind : Option (Code × ℕ) → Span → List MaybeArith → Script → Kind
+loop_kind (Some x) s slots body = refused_from s x.0 x.1
 loop_kind None s slots body = arith_loop (slot_of slots) (slot_of (rest_of slots)) (slot_of (rest_of (rest_of slots))) body
 
 abbrev for_kind : List Node → Kind
@@ -80,7 +80,7 @@ for_kind xs = if has_name xs then walk (name_in xs) (listed_in xs) (script_in xs
 abbrev a_subscript : Word → Span → List Node → List Node
 a_subscript w s [] = []
 a_subscript w s (arith_node e ∷ xs) = index_node (both_index w e s) ∷ []
-a_subscript w s (bad_node at x ∷ xs) = index_node (key_only w (to_end at s) s) ∷ []
+a_subscript w s (bad_node c at x ∷ xs) = index_node (key_only w (to_end at s) s) ∷ []
 a_subscript w s (x ∷ xs) = a_subscript w s xs
 
 -- ---- parameters
@@ -99,8 +99,8 @@ abbrev or_code : Option Code → List Node → List Node
 or_code (Some c) xs = code_node c ∷ []
 or_code None xs = xs
 
-abbrev or_bad : Option ℕ → List Node → List Node
-or_bad (Some at) xs = code_at_node arith_form at ∷ []
+abbrev or_bad : Option (Code × ℕ) → List Node → List Node
+or_bad (Some x) xs = code_at_node x.0 x.1 ∷ []
 or_bad None xs = xs
 
 -- `${a..}`, where nothing is refused
@@ -111,7 +111,7 @@ abbrev is_underscore : Name → Bool
 is_underscore n = same_text n.text (codes "_")
 
 abbrev valued : Name → List Node → List Node
-valued n xs = if is_underscore n then code_node special_parameter ∷ [] else operated (param_in n xs) xs
+valued n xs = if is_underscore n then or_code (code_in xs) (code_node special_parameter ∷ []) else operated (param_in n xs) xs
 
 abbrev length_in : Name → List Node → List Node
 length_in n xs = if is_underscore n then code_node special_parameter ∷ [] else unit_node (param_part (param_in n xs) length_of) ∷ []
@@ -132,11 +132,16 @@ is_members p = false
 abbrev pointed : Param → List Node → List Node
 pointed p xs = if is_members p && is_as_is (operation_in xs) && is_none (code_in xs) && is_none (bad_in xs) then unit_node (param_part p keys_of) ∷ [] else code_node indirect ∷ []
 
+-- of two things that are refused at one place the one that comes first in the table of refusals
+abbrev lesser : Code → Option Code → List Node
+lesser special_parameter (Some c) = code_node c ∷ []
+lesser c o = code_node c ∷ []
+
 abbrev special_in : List Node → List Node
 special_in [] = []
 special_in (subject_node (known p) true ∷ xs) = unit_node (param_part p length_of) ∷ []
 special_in (subject_node (known p) false ∷ xs) = operated p xs
-special_in (subject_node (refused c) n ∷ xs) = code_node c ∷ []
+special_in (subject_node (refused c) n ∷ xs) = lesser c (code_in xs)
 special_in (x ∷ xs) = special_in xs
 
 abbrev filled_in : Word → List Node → List Node
@@ -168,8 +173,8 @@ abbrev sliced : List MaybeArith → List Node
 sliced (some_arith o ∷ ls) = operation_node (slice_of o (slot_of ls)) ∷ []
 sliced ls = []
 
-abbrev or_first_bad : Option ℕ → Span → List Node → List Node
-or_first_bad (Some at) s xs = bad_node at s ∷ []
+abbrev or_first_bad : Option (Code × ℕ) → Span → List Node → List Node
+or_first_bad (Some x) s xs = bad_node x.0 x.1 s ∷ []
 or_first_bad None s xs = xs
 
 -- ---- redirections
@@ -194,6 +199,7 @@ op_in (x ∷ xs) w = op_in xs w
 -- the name of a function: a word of bytes that are a name
 abbrev function_in : Word → Span → Command → Kind
 function_in (a_word (next_part (plain text) s no_part) t) all body = if is_name text then function_of (record { text = text; span = t }) body else refused_command function_name all
+function_in (a_word (next_part (refused_part c s) t ps) u) all body = refused_command (if s.from == all.from then c else function_name) all
 function_in w all body = refused_command function_name all
 
 abbrev word_start : Word → ℕ
@@ -262,7 +268,7 @@ act bang xs = bang_node ∷ []
 act compound_command xs = a_command (kind_in (group_of no_chain) xs) (redirects_in xs) xs
 act group xs = a (group_of (script_in xs))
 act subshell xs = a (subshell_of (script_in xs))
-act sum_command xs = sum_kind (span_in xs) (arith_in xs (operands_in xs))
+act sum_command xs = sum_kind (span_in xs) (arith_in xs)
 act if_command xs = a (branching (branches_in xs) (else_in xs))
 act if_branch xs = branch_node (script_in xs) (second_script_in xs) ∷ []
 act else_part xs = else_node (script_in xs) ∷ []
@@ -270,8 +276,8 @@ act while_loop xs = a (loop false (script_in xs) (second_script_in xs))
 act until_loop xs = a (loop true (script_in xs) (second_script_in xs))
 act for_loop xs = a (for_kind xs)
 act for_in xs = listed_node (listed (words_in xs)) ∷ []
-act section xs = arith_in xs (operands_in xs)
-act last_section xs = arith_in xs (operands_in xs)
+act section xs = arith_in xs
+act last_section xs = arith_in xs
 act select_loop xs = a (refused_command reserved_command (span_in xs))
 act case_command xs = a (cases (word_in nowhere xs) (items_in xs))
 act case_item xs = item_node (words_in xs) (script_in xs) (end_in xs) ∷ []
@@ -312,17 +318,17 @@ act (length_braces c) xs = length_in (name_in xs) xs
 act (pointed_braces c) xs = pointed (param_in (name_in xs) xs) xs
 act (valued_braces c) xs = valued (name_in xs) xs
 act (special_braces c) xs = special_in xs
-act (subscript c) xs = a_subscript (a_word (parts_in xs) (span_in xs)) (span_in xs) (arith_in xs (operands_in xs))
+act (subscript c) xs = a_subscript (a_word (parts_in xs) (span_in xs)) (span_in xs) (arith_in xs)
 act (key_operand c) xs = with_part xs
 act (fill c) xs = filled_in (word_in nowhere xs) xs
 act (trim c) xs = trimmed_in (word_in nowhere xs) xs
 act (casing c) xs = cased_in (word_in nowhere xs) xs
 act (replace c) xs = replaced_in (word_in nowhere xs) (second_word_in xs) xs
 act (slice c) xs = or_first_bad (bad_in xs) (span_in xs) (sliced (slots_in xs))
-act (offset c) xs = arith_in xs (operands_in xs)
-act (slice_length c) xs = arith_in xs (operands_in xs)
+act (offset c) xs = arith_in xs
+act (slice_length c) xs = arith_in xs
 act (braced c) xs = a_word_node xs
-act (sum c) xs = a_sum (arith_in xs (operands_in xs))
+act (sum c) xs = a_sum (arith_in xs)
 act (sum_operand c) xs = as_operand xs
 act body_parts xs = a_word_node xs
 act r xs = xs

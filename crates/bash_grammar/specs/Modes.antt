@@ -88,6 +88,9 @@ heads =
     (codes "${a@b}", None) ∷
     (codes "${1a}", None) ∷
     (codes "${a,} ${a,,b}", Some (codes ". ${a,} !case 6-13!;")) ∷
+    (codes "${_?a} ${$-a} ${-?a}", Some (codes ". !error 0-6! !special 7-13! !error 14-20!;")) ∷
+    (codes "$((1 $$))", Some (codes ". !special 5-9!;")) ∷
+    (codes "\"${a:'1'}\"", Some (codes ". \"!quote 5-9!\";")) ∷
     (codes "${a:?} ${a:=}", Some (codes ". !error 0-6! ${a:=};")) ∷ []
 
 heads_read : map (λ r. shown r.0) heads ≡ map (λ r. r.1) heads

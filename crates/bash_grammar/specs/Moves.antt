@@ -1,6 +1,6 @@
 -- The steps and the tests of the table: what is read at once, and what may come next.
 use Rattle.std.specs.Prelude.{ℕ, Bool}
-use Rattle.bash_grammar.specs.Bytes.{Context}
+use Rattle.bash_grammar.specs.Bytes.{Quoting, Context}
 use Rattle.bash_grammar.specs.Tokens.{Op, Key}
 use Rattle.bash_grammar.specs.Sums.{Stretch}
 
@@ -99,9 +99,9 @@ pub data Step : Type 0 where
   open_sum : Step
   open_double : Step
   close_double : Step
-  -- an expression begins, and ends; whether it may be left out
+  -- an expression begins, and ends; whether it may be left out, and where the quotes in it are
   begin_sum : Step
-  end_sum : Bool → Step
+  end_sum : Bool → Quoting → Step
   sum_bytes : Stretch → Step
   -- one of its expansions begins, and ends
   begin_operand : Step

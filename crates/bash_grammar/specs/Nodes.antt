@@ -1,8 +1,8 @@
 -- What was read: the nodes that steps and rules give, and those of one kind among them.
-use Rattle.std.specs.Prelude.{ℕ, Bool, true, false, List, [], ◌∷◌, Option, Some, None}
+use Rattle.std.specs.Prelude.{ℕ, Bool, true, false, List, [], ◌∷◌, Option, Some, None, ◌==◌, if◌then◌else◌}
 use Rattle.span_text.specs.declared.expr.Expr.{Expr}
 use Rattle.span_text.specs.declared.span.Span.{Span}
-use Rattle.bash_grammar.specs.Shape.{Code, Name, TestOp, FillTest, ReplaceAt, ItemEnd, stop, RedirectOp, Part, Parts, no_part, part, Word, word, Words, no_word, next_word, Arith, arith, MaybeArith, no_arith, some_arith, Subscript, MaybeSubscript, no_subscript, some_subscript, ParamOp, as_is, Value, no_value, value, Element, Elements, no_element, next_element, Assign, Assigns, no_assign, next_assign, Redirects, no_redirect, redirect, Command, command, Kind, group, Branches, no_branch, branch, Otherwise, no_else, otherwise, ForWords, parameters, Items, no_item, item, Cond, or_cond, and_cond, not_cond, Stages, no_stage, stage, Pipeline, pipeline, Links, no_link, and_link, or_link, Chain, Script, no_chain, next_chain}
+use Rattle.bash_grammar.specs.Shape.{Code, refused_part, Name, TestOp, FillTest, ReplaceAt, ItemEnd, stop, RedirectOp, Part, Parts, no_part, part, Word, word, Words, no_word, next_word, Arith, arith, MaybeArith, no_arith, some_arith, Subscript, MaybeSubscript, no_subscript, some_subscript, ParamOp, as_is, Value, no_value, value, Element, Elements, no_element, next_element, Assign, Assigns, no_assign, next_assign, Redirects, no_redirect, redirect, Command, command, Kind, group, Branches, no_branch, branch, Otherwise, no_else, otherwise, ForWords, parameters, Items, no_item, item, Cond, or_cond, and_cond, not_cond, Stages, no_stage, stage, Pipeline, pipeline, Links, no_link, and_link, or_link, Chain, Script, no_chain, next_chain}
 use Rattle.bash_grammar.specs.Heads.{Subject}
 
 pub data Node : Type 0 where
@@ -18,10 +18,10 @@ pub data Node : Type 0 where
   code_at_node : Code → ℕ → Node
   part_node : Part → Span → Node
   operand_node : Word → Node
-  -- an expression, its names and effects; or nothing; or the offset where it goes wrong
+  -- an expression, its names and effects; or nothing; or what is refused in its place, from the offset where it goes wrong
   sum_node : Expr → List Name → List Span → Span → Node
   blank_node : Node
-  bad_node : ℕ → Span → Node
+  bad_node : Code → ℕ → Span → Node
   arith_node : Arith → Node
   -- of a parameter
   subject_node : Subject → (is_length : Bool) → Node
@@ -302,16 +302,29 @@ code_in [] = None
 code_in (code_node c ∷ xs) = Some c
 code_in (x ∷ xs) = code_in xs
 
--- where the first expression goes wrong
-abbrev pub bad_in : List Node → Option ℕ
+-- what is refused where the first expression goes wrong, and the offset
+abbrev pub bad_in : List Node → Option (Code × ℕ)
 bad_in [] = None
-bad_in (bad_node at s ∷ xs) = Some at
+bad_in (bad_node c at s ∷ xs) = Some (c, at)
 bad_in (x ∷ xs) = bad_in xs
 
+-- an expansion that is refused where the expression goes wrong is what is refused
+abbrev pub refused_at : ℕ → Code → Part → Code → Code
+refused_at at other (refused_part c s) rest = if s.from == at then c else rest
+refused_at at other p rest = rest
+
+abbrev pub code_at : ℕ → Code → List Node → Code
+code_at at other [] = other
+code_at at other (operand_node (word (part p s ps) t) ∷ xs) = refused_at at other p (code_at at other xs)
+code_at at other (x ∷ xs) = code_at at other xs
+
 -- the expression with its operands
-abbrev pub arith_in : List Node → Words → List Node
-arith_in [] ws = []
-arith_in (sum_node e names effects s ∷ xs) ws = arith_node (arith e ws names effects s) ∷ []
-arith_in (blank_node ∷ xs) ws = blank_node ∷ []
-arith_in (bad_node at s ∷ xs) ws = bad_node at s ∷ []
-arith_in (x ∷ xs) ws = arith_in xs ws
+abbrev pub arith_of : List Node → List Node → List Node
+arith_of all [] = []
+arith_of all (sum_node e names effects s ∷ xs) = arith_node (arith e (operands_in all) names effects s) ∷ []
+arith_of all (blank_node ∷ xs) = blank_node ∷ []
+arith_of all (bad_node c at s ∷ xs) = bad_node (code_at at c all) at s ∷ []
+arith_of all (x ∷ xs) = arith_of all xs
+
+abbrev pub arith_in : List Node → List Node
+arith_in xs = arith_of xs xs

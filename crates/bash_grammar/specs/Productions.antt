@@ -87,6 +87,7 @@ functions_too =
     (codes "function f-g { a; }", Some (codes "!name 9-19!;")) ∷
     (codes "function f\n\n(a)", Some (codes "f() ( . a; );")) ∷
     (codes "f() ((a))", Some (codes "f() ((6-7 a 6-7));")) ∷
+    (codes "$$() (a)", Some (codes "!special 0-8!;")) ∷
     (codes "if() { a; }", None) ∷
     (codes "a b() { c; }", None) ∷
     (codes "f() { a; } b", None) ∷

@@ -1,10 +1,10 @@
 -- What each step reads.
-use Rattle.std.specs.Prelude.{ℕ, suc, ◌+◌, ◌-◌, Bool, true, false, ◌&&◌, ◌==◌, nat_lt, List, [], ◌∷◌, ◌++◌, length, drop, map, Option, Some, None, if◌then◌else◌, codes}
+use Rattle.std.specs.Prelude.{◌||◌, ℕ, suc, ◌+◌, ◌-◌, Bool, true, false, ◌&&◌, ◌==◌, nat_lt, List, [], ◌∷◌, ◌++◌, length, drop, map, Option, Some, None, if◌then◌else◌, codes}
 use Rattle.span_text.specs.declared.span.Span.{Span}
 use Rattle.span_text.specs.KnownNames.{same_text}
 use Rattle.text_grammar.specs.Grammar.{Leaf, quiet, said}
-use Rattle.bash_grammar.specs.Shape.{Code, Name, plain, exact as exact_part, tilde as tilde_part, param, as_is, named, Parts, no_part, part, Word, word, read, write, append, here_literal, here_expanded, here_string, copy_in, copy_out, both_out, both_append, refused_op, stop, fall, test_on, special_parameter, extended_glob, locale_quote, nested_quote, ansi_escape, backquote, read_write, indirect}
-use Rattle.bash_grammar.specs.Bytes.{Text, in_word, clear, gap, byte_next, literal_in, unit_starts, name_run}
+use Rattle.bash_grammar.specs.Shape.{Code, Name, plain, exact as exact_part, tilde as tilde_part, param, as_is, named, Parts, no_part, part, Word, word, read, write, append, here_literal, here_expanded, here_string, copy_in, copy_out, both_out, both_append, refused_op, stop, fall, test_on, special_parameter, extended_glob, locale_quote, nested_quote, arith_form, ansi_escape, backquote, read_write, indirect}
+use Rattle.bash_grammar.specs.Bytes.{Quoting, bare, quoted, in_body, Text, in_word, clear, gap, byte_next, literal_in, unit_starts, name_run}
 use Rattle.bash_grammar.specs.Quotes.{quoted_run, Ansi, outside, ansi_from}
 use Rattle.bash_grammar.specs.Tokens.{◌>>=◌, behind, Op, End, Newline, SemiSemi, SemiAnd, SemiSemiAnd, Amp, Pipe, PipeAnd, Less, Great, Clobber, DGreat, DLess, DLessDash, TLess, LessAnd, GreatAnd, LessGreat, AndGreat, AndDGreat, Io, Far, Word as WordToken, token, is_token, literal_word, is_key, is_word_of, is_angle_token, name_at, tilde_at}
 use Rattle.bash_grammar.specs.Heads.{Subject, known, refused, Special, tail, behind_two, dollar_name, dollar_short, brace_name, length_name, pointed_name, brace_special, dollar_sum, members_at, names_at, fill_at, trim_at, case_at, replace_at, transform_at, slice_at}
@@ -243,16 +243,27 @@ shifted s text x = record { from = place_of s (drop x.from text); to = place_beh
 abbrev pub shifted_name : State → Text → Name → Name
 shifted_name s text n = record { text = n.text; span = shifted s text n.span }
 
-abbrev pub outcome_node : State → Frame → Text → Outcome → Node
-outcome_node s f text (spelled e) = sum_node e (map (shifted_name s f.bytes) (names_of (marks text f.operands))) (map (shifted s f.bytes) (effects_from 0 [] (marks text f.operands))) (record { from = place_of s f.bytes; to = place_of s s.bytes })
-outcome_node s f text (spoiled at) = bad_node (place_of s (drop at f.bytes)) (record { from = place_of s f.bytes; to = place_of s s.bytes })
+-- a quote that is refused between the braces of `${ }` there
+abbrev pub is_nested : Quoting → ℕ → Bool
+is_nested bare b = false
+is_nested quoted b = b == 39
+is_nested in_body b = b == 39 || b == 34
+
+-- what is refused where an expression goes wrong before these bytes
+abbrev pub spoiled_code : Quoting → Text → Code
+spoiled_code q [] = arith_form
+spoiled_code q (b ∷ bs) = if is_nested q b then nested_quote else arith_form
+
+abbrev pub outcome_node : State → Quoting → Frame → Text → Outcome → Node
+outcome_node s q f text (spelled e) = sum_node e (map (shifted_name s f.bytes) (names_of (marks text f.operands))) (map (shifted s f.bytes) (effects_from 0 [] (marks text f.operands))) (record { from = place_of s f.bytes; to = place_of s s.bytes })
+outcome_node s q f text (spoiled at) = bad_node (spoiled_code q (drop at text)) (place_of s (drop at f.bytes)) (record { from = place_of s f.bytes; to = place_of s s.bytes })
 
 abbrev pub is_blank_text : Frame → Text → Bool
 is_blank_text f text = is_idle (joined_up false (placed_from 0 0 f.operands text))
 
-abbrev pub sum_read : State → Bool → List Frame → Read
-sum_read s optional [] = None
-sum_read s optional (f ∷ fs) = Some (said (if optional && is_blank_text f (framed f s.bytes) then blank_node else outcome_node s f (framed f s.bytes) (outcome (framed f s.bytes) f.operands)), record s { frames = fs })
+abbrev pub sum_read : State → Bool → Quoting → List Frame → Read
+sum_read s optional q [] = None
+sum_read s optional q (f ∷ fs) = Some (said (if optional && is_blank_text f (framed f s.bytes) then blank_node else outcome_node s q f (framed f s.bytes) (outcome (framed f s.bytes) f.operands)), record s { frames = fs })
 
 -- a byte at least
 abbrev pub stretch_read : State → Text × ℕ → Read
@@ -322,7 +333,7 @@ run_step k open_sum s = dollar_sum s.bytes >>= silent s
 run_step k open_double s = behind_two 40 40 (gap s.bytes) >>= silent s
 run_step k close_double s = behind_two 41 41 s.bytes >>= silent s
 run_step k begin_sum s = with_frames s (open_frame s.bytes s.frames) s.bytes
-run_step k (end_sum optional) s = sum_read s optional s.frames
+run_step k (end_sum optional q) s = sum_read s optional q s.frames
 run_step k (sum_bytes x) s = stretch_read s (stretch_run x (level_of s.frames) s.bytes)
 run_step k begin_operand s = with_frames s (begin_in (clear s.bytes) s.frames) s.bytes
 run_step k end_operand s = with_frames s (end_in s.bytes s.frames) s.bytes

@@ -216,7 +216,7 @@ body loop_or_case = choose (key_next While) (rule while_loop) (choose (key_next 
 -- group: '{' list '}'; subshell: '(' list ')'; sum_command: '((' expr '))'
 body group = step (key OpenBrace) then step enter then rule list then step (key CloseBrace) then step leave
 body subshell = step (op Open) then step enter then rule list then step (op Close) then step leave
-body sum_command = step open_double then step enter then step begin_sum then star (sum_goes_on to_close) (rule (sum_part to_close in_double)) then step (end_sum false) then step close_double then step leave then step to_here
+body sum_command = step open_double then step enter then step begin_sum then star (sum_goes_on to_close) (rule (sum_part to_close in_double)) then step (end_sum false bare) then step close_double then step leave then step to_here
 -- if list then list (elif list then list)* (else list)? fi
 body if_command = step (key If) then step enter then rule if_branch then star (key_next Elif) (rule elif_branch) then choose (key_next Else) (rule else_part) pass then step (key Fi) then step leave
 body if_branch = rule list then step (key Then) then rule list
@@ -234,8 +234,8 @@ body for_words = choose (next Semi) (step (op Semi) then rule lines) (rule lines
 body for_in = step (key In) then star (next Word) (rule word) then choose (next Semi) (step (op Semi)) (step line) then rule lines
 -- sum_for: '((' expr? ';' expr? ';' expr? '))' ';'? newline*
 body sum_for = step open_double then step enter then rule section then rule section then rule last_section then step leave then choose (next Semi) (step (op Semi)) pass then rule lines
-body section = step begin_sum then star (sum_goes_on to_semi) (rule (sum_part to_semi in_double)) then step (end_sum true) then step (byte 59)
-body last_section = step begin_sum then star (sum_goes_on to_close) (rule (sum_part to_close in_double)) then step (end_sum true) then step close_double
+body section = step begin_sum then star (sum_goes_on to_semi) (rule (sum_part to_semi in_double)) then step (end_sum true bare) then step (byte 59)
+body last_section = step begin_sum then star (sum_goes_on to_close) (rule (sum_part to_close in_double)) then step (end_sum true bare) then step close_double
 -- select name_for do list done
 body select_loop = step from_token then step (key Select) then step enter then rule name_for then rule do_body then step leave then step to_here
 -- case word newline* in newline* item* esac
@@ -349,7 +349,7 @@ body (valued_braces c) = step open_named then step enter then rule (index c) the
 body (special_braces c) = step open_special then step enter then rule (operation c) then step leave
 -- index: '[@]' | '[*]' | subscript
 body (index c) = choose members_begin (step members) (choose (byte_begins 91) (rule (subscript c)) pass)
-body (subscript c) = step open_key then step to_here then star (unit_begins (inner keys c)) (rule (key_part (inner keys c))) then step to_here then step (end_sum false) then step (byte 93)
+body (subscript c) = step open_key then step to_here then star (unit_begins (inner keys c)) (rule (key_part (inner keys c))) then step to_here then step (end_sum false bare) then step (byte 93)
 body (key_part c) = choose expansion_begins (rule (key_operand c)) (rule (part c))
 body (key_operand c) = step begin_operand then rule (part c) then step end_operand
 -- operation: '}' | an operator, words or expressions, '}'
@@ -362,13 +362,13 @@ body (casing c) = step case_op then rule (braced (inner_pattern patterns c)) the
 body (replace c) = step replace_op then rule (braced (inner_pattern firsts c)) then choose (byte_begins 47) (rule (replacement c)) pass then step (byte 125)
 body (replacement c) = step (byte 47) then rule (braced (inner seconds c))
 body (slice c) = step slice_op then rule (offset c) then choose (byte_begins 58) (rule (slice_length c)) pass then step (byte 125)
-body (offset c) = step begin_sum then star (sum_goes_on to_colon) (rule (sum_part to_colon (inner_sum c))) then step (end_sum false)
-body (slice_length c) = step (byte 58) then step begin_sum then star (sum_goes_on to_brace) (rule (sum_part to_brace (inner_sum c))) then step (end_sum false)
+body (offset c) = step begin_sum then star (sum_goes_on to_colon) (rule (sum_part to_colon (inner_sum c))) then step (end_sum false c.quoting)
+body (slice_length c) = step (byte 58) then step begin_sum then star (sum_goes_on to_brace) (rule (sum_part to_brace (inner_sum c))) then step (end_sum false c.quoting)
 body (braced c) = step to_here then star (unit_begins c) (rule (part c)) then step to_here
 -- ---- expressions
 
 -- sum: $(( part* )); part: '(' part* ')' | an expansion | bytes
-body (sum c) = step open_sum then step enter then step begin_sum then star (sum_goes_on to_close) (rule (sum_part to_close (inner_sum c))) then step (end_sum false) then step close_double then step leave
+body (sum c) = step open_sum then step enter then step begin_sum then star (sum_goes_on to_close) (rule (sum_part to_close (inner_sum c))) then step (end_sum false bare) then step close_double then step leave
 body (sum_part s c) = choose sum_opens (rule (sum_group c)) (choose sum_expands (rule (sum_operand c)) (step (sum_bytes s)))
 body (sum_group c) = step (byte 40) then step enter then star (sum_goes_on to_close) (rule (sum_part to_close c)) then step (byte 41) then step leave
 body (sum_operand c) = step begin_operand then rule (part c) then step end_operand
