@@ -127,7 +127,8 @@ documents =
     (codes "a <<E\n$(b <<F\n$$\nF\n)\nE", Some (codes ". a <<$(. b <<!special 14-16!\n;)\n;")) ∷
     (codes "a `b; $$`", Some (codes ". a $(. b;. !special 6-8!;);")) ∷
     (codes "a <<E\n$(b\nE", None) ∷
-    (codes "a 12<<E\nb\nE", Some (codes ". a !descriptor 2-7!b\n;")) ∷ []
+    (codes "a 12<<E\nb\nE", Some (codes ". a !descriptor 2-7!b\n;")) ∷
+    (codes "a `b <<E\n$$\nE\n`", Some (codes ". a $(. b <<!special 9-11!\n;);")) ∷ []
 
 documents_read : map (λ r. shown r.0) documents ≡ map (λ r. r.1) documents
 unfolding number_of sign_of longer is_gap reduce parse read vals vals_twice begins_name continues_name clear comment_end gap is_special_param is_meta is_ended is_quote is_active is_plain is_escaped_in is_escaped opens_glob opens_process expands is_literal literal_run literal_in begins_unit unit_starts unit_starts_in name_run digit_run idle quoted_run letter ansi_from code semi_at and_at pipe_at here_at less_at great_at front token is_token key_text is_key is_word_of compound_words command_words other_words declaring_words unary_tests binary_tests here_next copy_next both_next redirect_next plain_next simple_next compound_next command_next pipeline_next sum_command_next parens_next name_at tilde_at tilde_next short_param_at special_at behind_two dollar_name dollar_short brace_name length_name pointed_name brace_special brace_next dollar_sum sum_next subst_next old_next ansi_next locale_next expansion_next members_at names_at fill_at trim_at case_at replace_at is_transform transform_at slice_at delimiter_from delimiter_at delimiter_for body_from body_at behind_quotes ahead place_of place_behind stretch_run outcome marks equals_at bodies_at tick_run ticks_at run_step assign_at indexed_next holds bash next_piece nodes_in nodes_from
