@@ -1,0 +1,11 @@
+pub mod Kinds
+pub mod Heads
+pub mod Answers
+pub mod Delimiters
+pub mod Owing
+pub mod Views
+pub mod Tables
+pub mod Values
+pub mod Aparts
+pub mod Turns
+pub mod Picking
