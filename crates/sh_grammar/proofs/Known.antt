@@ -102,7 +102,7 @@ unfolding sh
 sh_knows zero bodies = refl
 sh_knows (suc n) bodies = refl
 
-allows_in : (n : ℕ) (bodies : List Text) → Allows (sh n bodies) (sh n [])
+pub allows_in : (n : ℕ) (bodies : List Text) → Allows (sh n bodies) (sh n [])
 unfolding sh
 allows_in zero bodies = over (known_in zero bodies) no_parts
 allows_in (suc n) bodies = over (known_in (suc n) bodies) (expand_in n)

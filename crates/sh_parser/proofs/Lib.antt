@@ -16,3 +16,4 @@ pub mod Turns
 pub mod Documents
 pub mod Picked
 pub mod Levels
+pub mod Turning

@@ -9,3 +9,4 @@ pub mod Values
 pub mod Aparts
 pub mod Turns
 pub mod Picking
+pub mod Tasks

@@ -1,6 +1,6 @@
 -- The names of the grammar's table in the code, as those of the grammar.
-use Rattle.std.specs.Prelude.{ℕ, suc, nat_le, Bool, ◌&&◌, List, [], ◌∷◌}
-use Rattle.text_grammar.specs.Ranks.{small, takes}
+use Rattle.std.specs.Prelude.{Bool, List, [], ◌∷◌}
+use Rattle.text_grammar.specs.Ranks.{small}
 use Rattle.sh_grammar.specs.Depths.{ranks}
 use Rattle.text_grammar.specs.Grammar.{◌then◌, pass, fail, step as a_step, rule as a_rule, choose, star, seq}
 use Rattle.sh_grammar.specs.Table as table
@@ -247,24 +247,6 @@ chosen g bytes = g
 abbrev pub opened_gram : Context → Gram
 opened_gram c = a_step table.open_head then a_step table.enter then star (table.unit_begins c) (a_rule (table.part c)) then a_step table.close_brace then a_step table.leave
 
--- ---- how deep a grammar is, so that reading by it ends
-
-abbrev pub larger : ℕ → ℕ → ℕ
-larger a b = if nat_le a b then b else a
-
--- the height, counting a rule's as its rank
-abbrev pub deep : Gram → ℕ
-deep pass = 1
-deep fail = 1
-deep (a_step k) = 1
-deep (seq g h) = suc (larger (deep g) (deep h))
-deep (choose t g h) = suc (larger (deep g) (deep h))
-deep (star t g) = suc (deep g)
-deep (a_rule r) = suc (ranks.rank r)
-
+-- each repetition takes bytes
 abbrev pub is_small : Gram → Bool
 is_small g = small ranks g
-
--- each repetition takes bytes, and no part is deeper than rules are
-abbrev pub is_ready : List Item → Bool
-is_ready xs = small ranks (items_gram xs) && nat_le (deep (items_gram xs)) 90

@@ -25,6 +25,7 @@ mod sum_steps;
 mod sums;
 mod table;
 mod taking;
+mod tasks;
 mod tokens;
 mod units;
 mod values;

@@ -1,172 +1,84 @@
 //! Reading by the grammar's table.
 //!
-//! A few functions read whatever the table says: `rule_of` a rule, `items_of` what its body is made of, `unit_of` one of
-//! these. They lead back to themselves where rules nest, so the stack grows with nesting alone.
+//! What is still to be read stands on a stack of tasks in memory, so the program's own stack doesn't grow with a text: only
+//! the bodies of here-documents in one another lead back to themselves.
 
-ghost use Rattle.std.specs.Prelude.{◌≡◌, ◌∷◌, ℕ, List, [], map, true, Some, if◌then◌else◌};
-ghost use Rattle.text_grammar.specs.Grammar.{rule, star, step};
-ghost use Rattle.text_grammar.specs.Values.{vals, behind, go, stepped};
+ghost use Rattle.std.specs.Prelude.{◌≡◌, ◌∷◌, ℕ, List, [], Some, if◌then◌else◌};
+ghost use Rattle.text_grammar.specs.Grammar.{rule};
+ghost use Rattle.text_grammar.specs.Values.{vals, stepped};
 ghost use Rattle.sh_grammar.specs.Bytes.{Text as Bytes};
-ghost use Rattle.sh_grammar.specs.State.{word_in, start_at};
+ghost use Rattle.sh_grammar.specs.State.{word_in};
 ghost use Rattle.sh_grammar.specs.Table as table;
 ghost use Rattle.sh_grammar.specs.Steps as steps;
 ghost use Rattle.sh_grammar.specs.Spelling.{sh};
-ghost use Rattle.sh_syntax.specs.View.{view_word, parts_of, view_part};
+ghost use Rattle.sh_syntax.specs.View.{view_word};
 ghost use Rattle.sh_parser.specs.Answers.{Gives};
 ghost use Rattle.sh_parser.specs.Tables as tables;
-ghost use Rattle.sh_parser.specs.Tables.{items_gram, unit, is_ready, is_small};
 ghost use Rattle.sh_parser.specs.Values.{value_node, nodes};
 ghost use Rattle.sh_parser.specs.Views.{known, state};
 
-use crate::acts::act;
-use crate::ahead::holds;
 use crate::fault::Stop;
-use crate::gaps::gap;
 use crate::notes::{Notes, span_of, word_of_parts};
 use crate::redirects::{body_of, here_front, here_operator, plain_parts};
-use crate::rules::body;
-use crate::table::{Item, Rule, Test, Unit, WordRule};
-use crate::taking::take;
-use crate::values::{Value, joined, with};
+use crate::table::{Rule, Unit, WordRule};
+use crate::tasks::{Task, items_turn, make_turn, star_turn, unit_turn};
+use crate::values::{Value, with};
 use sh_syntax::Word;
-use span_text::{List, Text};
+use span_text::{List, Span, Text};
 use std::alloc::Global;
 
-/// What a rule makes of what its body reads, behind values that were read before.
+/// How many turns are made: no text that fits the memory takes more.
+const TURNS: u64 = u64::MAX;
+
+/// What the rule gives here, and what follows it.
 #[cycle(reader)]
 pub fn rule_of<'a>(
     alloc: Global,
     levels: u32,
     bodies: &[Text],
     wanted: Rule,
-    values: List<Value>,
     bytes: &'a [u8],
     notes: &mut Notes,
 ) -> Result<(List<Value>, &'a [u8]), Stop>
-    ensures { Gives (λ x. (nodes x.0, state x.1.now notes.new)) result (behind (nodes values) (vals (sh levels bodies.now) (rule (tables.rule wanted)) (state bytes.now notes.old))) }
+    ensures { Gives (λ x. (nodes x.0, state x.1.now notes.new)) result (vals (sh levels bodies.now) (rule (tables.rule wanted)) (state bytes.now notes.old)) }
 {
-    let items = body(wanted, bytes);
-    let (inner, rest) = items_of(alloc, levels, bodies, items, List::new(alloc), bytes, notes)?;
-    let span = span_of(notes, place_of(wanted, bytes), rest);
-    let made = act(alloc, wanted, inner, span)?;
-    Ok((joined(values, made)?, rest))
-}
-
-/// Where what a rule reads begins.
-fn place_of(rule: Rule, bytes: &[u8]) -> &[u8] {
-    match rule {
-        Rule::Word(WordRule::Part(_)) => bytes,
-        Rule::Word(WordRule::DoubleQuotes) => bytes,
-        Rule::Dollar(_) => bytes,
-        _ => gap(bytes),
-    }
-}
-
-/// Items one behind the other.
-#[cycle(reader)]
-fn items_of<'a>(
-    alloc: Global,
-    levels: u32,
-    bodies: &[Text],
-    items: &[Item],
-    values: List<Value>,
-    bytes: &'a [u8],
-    notes: &mut Notes,
-) -> Result<(List<Value>, &'a [u8]), Stop>
-    requires { is_ready items.now ≡ true }
-    ensures { Gives (λ x. (nodes x.0, state x.1.now notes.new)) result (go (steps.run_step (known levels bodies.now)) steps.holds (vals (sh levels bodies.now)) (items_gram items.now) (nodes values) (state bytes.now notes.old)) }
-{
-    match items {
-        [] => Ok((values, bytes)),
-        [first, rest @ ..] => match *first {
-            Item::One(unit) => {
-                let (values, after) = unit_of(alloc, levels, bodies, unit, values, bytes, notes)?;
-                items_of(alloc, levels, bodies, rest, values, after, notes)
-            }
-            Item::If(test, one, other) => {
-                let unit = side(test, one, other, bytes);
-                let (values, after) = unit_of(alloc, levels, bodies, unit, values, bytes, notes)?;
-                items_of(alloc, levels, bodies, rest, values, after, notes)
-            }
-            Item::Where(test) => if holds(test, bytes) {
-                items_of(alloc, levels, bodies, rest, values, bytes, notes)
-            } else {
-                Ok((values, bytes))
-            },
-            Item::Star(test, unit) => {
-                let (values, after) = star_of(
-                    alloc, levels, bodies, test, unit, values, bytes, notes,
-                )?;
-                items_of(alloc, levels, bodies, rest, values, after, notes)
-            }
-        },
-    }
-}
-
-/// The one where the test holds, else the other.
-fn side(test: Test, one: Unit, other: Unit, bytes: &[u8]) -> Unit
-    ensures { result ≡ (if steps.holds (tables.test test) (start_at 0 bytes.now) then one else other) }
-{
-    if holds(test, bytes) { one } else { other }
-}
-
-/// Again and again, as long as the test holds.
-#[cycle(reader)]
-fn star_of<'a>(
-    alloc: Global,
-    levels: u32,
-    bodies: &[Text],
-    test: Test,
-    unit: Unit,
-    values: List<Value>,
-    bytes: &'a [u8],
-    notes: &mut Notes,
-) -> Result<(List<Value>, &'a [u8]), Stop>
-    requires { is_small (star (tables.test test) (tables.unit unit)) ≡ true }
-    ensures { Gives (λ x. (nodes x.0, state x.1.now notes.new)) result (behind (nodes values) (vals (sh levels bodies.now) (star (tables.test test) (tables.unit unit)) (state bytes.now notes.old))) }
-{
-    let mut values = values;
+    let mut tasks = Vec::new(alloc);
+    tasks.push(Task::Unit(Unit::Rule(wanted)))?;
+    let mut values = List::new(alloc);
     let mut rest = bytes;
+    let mut left = TURNS;
     'turns: loop {
-        if !holds(test, rest) {
-            return Ok((values, rest));
+        if left == 0 {
+            return Err(Stop::Memory);
         }
-        let (more, after) = unit_of(alloc, levels, bodies, unit, values, rest, notes)?;
-        values = more;
-        rest = after;
+        left -= 1;
+        match tasks.pop() {
+            None => return Ok((values, rest)),
+            Some(Task::Items(items)) => items_turn(items, rest, &mut tasks)?,
+            Some(Task::Star(test, unit)) => star_turn(test, unit, rest, &mut tasks)?,
+            Some(Task::Make(rule, front, from)) => {
+                let span = until(from, span_of(notes, rest, rest));
+                values = make_turn(alloc, rule, front, values, span)?;
+            }
+            Some(Task::Here) => {
+                let (value, after) = here_of(alloc, levels, bodies, rest, notes)?;
+                values = with(values, Some(value))?;
+                rest = after;
+            }
+            Some(Task::Unit(unit)) => {
+                let (more, after) = unit_turn(alloc, unit, values, rest, &mut tasks, notes)?;
+                values = more;
+                rest = after;
+            }
+        }
     }
 }
 
-/// A step, a rule, or neither.
-#[cycle(reader)]
-fn unit_of<'a>(
-    alloc: Global,
-    levels: u32,
-    bodies: &[Text],
-    unit: Unit,
-    values: List<Value>,
-    bytes: &'a [u8],
-    notes: &mut Notes,
-) -> Result<(List<Value>, &'a [u8]), Stop>
-    ensures { Gives (λ x. (nodes x.0, state x.1.now notes.new)) result (go (steps.run_step (known levels bodies.now)) steps.holds (vals (sh levels bodies.now)) (tables.unit unit) (nodes values) (state bytes.now notes.old)) }
-{
-    match unit {
-        Unit::Pass => Ok((values, bytes)),
-        Unit::Fail => Err(Stop::Bad),
-        Unit::Unless(test) => if holds(test, bytes) {
-            Err(Stop::Bad)
-        } else {
-            Ok((values, bytes))
-        },
-        Unit::Step(step) => {
-            let (value, rest) = take(alloc, step, bytes, notes)?;
-            Ok((with(values, value)?, rest))
-        }
-        Unit::Here => {
-            let (value, rest) = here_of(alloc, levels, bodies, bytes, notes)?;
-            Ok((with(values, Some(value))?, rest))
-        }
-        Unit::Rule(rule) => rule_of(alloc, levels, bodies, rule, values, bytes, notes),
+/// From where the one begins to where the other ends.
+fn until(from: Span, to: Span) -> Span {
+    Span {
+        from: from.from,
+        to: to.to,
     }
 }
 
@@ -232,29 +144,13 @@ fn expanded_of(
     }
     let rule = Rule::Word(WordRule::BodyParts);
     let mut first = notes.inner(alloc, from, to);
-    let (values, _) = rule_of(
-        alloc,
-        levels - 1,
-        &[],
-        rule,
-        List::new(alloc),
-        text,
-        &mut first,
-    )?;
+    let (values, _) = rule_of(alloc, levels - 1, &[], rule, text, &mut first)?;
     if first.found.len() == 0 {
         return word_in_values(alloc, values, notes, from, to);
     }
     let mut second = notes.inner(alloc, from, to);
     let bodies = first.found.as_slice();
-    let (values, _) = rule_of(
-        alloc,
-        levels - 1,
-        bodies,
-        rule,
-        List::new(alloc),
-        text,
-        &mut second,
-    )?;
+    let (values, _) = rule_of(alloc, levels - 1, bodies, rule, text, &mut second)?;
     word_in_values(alloc, values, notes, from, to)
 }
 

@@ -32,7 +32,6 @@ use std::alloc::Global;
 const LEVELS: u32 = 1001;
 
 /// A complete command and the newline or the end behind it, or a newline.
-#[tactic(auto, using(text_grammar::proofs::Rules::behind_nil))]
 fn piece_of<'a>(
     alloc: Global,
     bodies: &[Text],
@@ -42,7 +41,7 @@ fn piece_of<'a>(
     ensures { Gives (λ x. (nodes x.0, state x.1.now notes.new)) result (vals (sh_with bodies.now) (rule table.piece) (state bytes.now notes.old)) }
 {
     let rule = Rule::Line(LineRule::Piece);
-    rule_of(alloc, LEVELS, bodies, rule, List::new(alloc), bytes, notes)
+    rule_of(alloc, LEVELS, bodies, rule, bytes, notes)
 }
 
 /// A piece: it is read once to find the bodies of its here-documents, and where there are any, once more with them.

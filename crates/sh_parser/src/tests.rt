@@ -6,6 +6,7 @@ use std::process::Abort;
 use std::test::Fail;
 
 mod commands;
+mod deep;
 mod picture;
 mod refused;
 mod words;

@@ -1,44 +1,31 @@
--- How the functions of the reader get ahead: a body is read with fewer levels of bodies, and else fewer bytes are ahead, or
--- less is needed before one is taken.
-use Rattle.std.proofs.Common.{ℕ, ◌≡◌, ◌≤◌, length, ◌+◌, ◌*◌, ◌^◌, List, [], ◌∷◌}
-use Rattle.std.specs.Prelude.{map}
-use Rattle.text_grammar.specs.Grammar.{star, rule}
-use Rattle.text_grammar.specs.Values.{vals, behind}
-use Rattle.sh_grammar.specs.Depths.{rank}
+-- How the functions of the reader get ahead: a body is read with fewer levels of bodies.
+use Rattle.std.proofs.Common.{◌≡◌, ℕ, ◌+◌, ◌*◌, true}
+use Rattle.text_grammar.specs.Grammar.{rule}
+use Rattle.text_grammar.specs.Values.{vals}
 use Rattle.sh_grammar.specs.Spelling.{sh}
-use Rattle.sh_parser.specs.Tables.{test, unit}
 use Rattle.sh_parser.specs.Tables as tables
+use Rattle.sh_parser.specs.Tasks.{todos, go_on, all_ready}
 use Rattle.sh_parser.specs.Values.{nodes}
 use Rattle.sh_parser.specs.Views.{state}
-use Rattle.sh_parser.proofs.Depths.{need, need_all, ahead}
 use Rattle.sh_parser.proofs.reader.+reader.Given as goal
 
 abbrev pub decreases-rule_of : goal.decreases-rule_of
-decreases-rule_of l = ahead l.levels (length l.bytes.now) (rank (tables.rule l.wanted)) 2
-
-abbrev pub decreases-items_of : goal.decreases-items_of
-decreases-items_of l = ahead l.levels (length l.bytes.now) (need_all l.items.now) 1
-
-abbrev pub decreases-star_of : goal.decreases-star_of
-decreases-star_of l = ahead l.levels (length l.bytes.now) (need (star (test l.test) (unit l.unit))) 0
-
-abbrev pub decreases-unit_of : goal.decreases-unit_of
-decreases-unit_of l = ahead l.levels (length l.bytes.now) (need (unit l.unit)) 0
+decreases-rule_of l = 4 * l.levels + 3
 
 abbrev pub decreases-here_of : goal.decreases-here_of
-decreases-here_of l = ahead l.levels 0 0 3
+decreases-here_of l = 4 * l.levels + 2
 
 abbrev pub decreases-document_of : goal.decreases-document_of
-decreases-document_of l = ahead l.levels 0 0 2
+decreases-document_of l = 4 * l.levels + 1
 
 abbrev pub decreases-expanded_of : goal.decreases-expanded_of
-decreases-expanded_of l = ahead l.levels 0 0 1
+decreases-expanded_of l = 4 * l.levels
 
--- what is read behind the values so far is what is read in all
-abbrev pub invariant-star_of-turns : goal.invariant-star_of-turns
-invariant-star_of-turns l =
-    (behind (nodes l.fn.values) (vals (sh l.levels l.bodies) (star (test l.test) (unit l.unit)) (state l.initial.rest l.initial.notes)) ≡ behind (nodes l.values) (vals (sh l.levels l.bodies) (star (test l.test) (unit l.unit)) (state l.rest l.notes)))
-    × (length l.rest ≤ length l.initial.rest)
+-- what the tasks give is what the rule gives in all
+abbrev pub invariant-rule_of-turns : goal.invariant-rule_of-turns
+invariant-rule_of-turns l =
+    (vals (sh l.levels l.bodies) (rule (tables.rule l.wanted)) (state l.initial.rest l.initial.notes) ≡ go_on l.levels l.bodies (todos l.tasks.items) (nodes l.values) (state l.rest l.notes))
+    × (all_ready (todos l.tasks.items) ≡ true)
 
-abbrev pub decreases-star_of-turns : goal.decreases-star_of-turns
-decreases-star_of-turns l = length l.rest
+abbrev pub decreases-rule_of-turns : goal.decreases-rule_of-turns
+decreases-rule_of-turns l = l.left

@@ -1,0 +1,16 @@
+pub mod Bodies
+pub mod Comings
+pub mod CommandTexts
+pub mod Covers
+pub mod Firsts
+pub mod GatheredBodies
+pub mod Gathers
+pub mod Lines
+pub mod Numbers
+pub mod Openings
+pub mod PartViews
+pub mod Puts
+pub mod RedirectTexts
+pub mod Searches
+pub mod SumTexts
+pub mod Walks

@@ -1,0 +1,15 @@
+use Rattle.std.proofs.Common.{◌∷◌, ◌++◌, []}
+use Rattle.std.proofs.lemmas.Result.{err_from_is_err_and}
+use Rattle.sh_printing.specs.Marks.{param_name}
+use Rattle.sh_syntax.specs.View.{view_param}
+use Rattle.sh_printer.proofs.Puts.{put_then, put_early}
+use Rattle.sh_printer.proofs.leaves.print_trimming.Goals as goal
+
+pub returns-in_err-put : goal.returns-in_err-put
+returns-in_err-put g c =
+    let p = err_from_is_err_and c.from_residual.result c.from_residual.ensures.1 in
+    put_early _ _ _ _ _ _ c.from_residual.result _ (36 ∷ 123 ∷ []) (param_name (view_param c.args.param.now) ++ c.args.mark.now) p.1 c.in_err-put.ensures
+
+pub returns : goal.returns
+returns g c =
+    put_then _ _ _ _ _ _ _ _ c.put-3.result (36 ∷ 123 ∷ []) (param_name (view_param c.args.param.now) ++ c.args.mark.now) c.in_ok-put.ensures (put_then _ _ _ _ _ _ _ _ c.put-3.result (param_name (view_param c.args.param.now)) c.args.mark.now (rw c.param_name.ensures at c.in_ok-put-2.ensures) c.put-3.ensures)

@@ -1,0 +1,6 @@
+pub mod Delimiters
+pub mod Marks
+pub mod Printable
+pub mod Printing
+pub mod Spellable
+pub mod Sums
