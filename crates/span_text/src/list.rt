@@ -76,6 +76,10 @@ impl<T: Drop> List<T> {
         ensures ok { OnOk result (self.new ≡ self.old ++ item ∷ []) }
         ensures err { OnErr result (self.new ≡ self.old) }
     {
+        // Most lists of a tree have one item, so the first gets room for itself alone.
+        if self.cells.is_empty() {
+            self.cells.reserve_exact(1)?;
+        }
         self.cells.push(item)?;
         Ok(())
     }
