@@ -42,6 +42,8 @@ pub data Code : Type 0 where
   function_name : Code
   -- what spells no expression
   arith_form : Code
+  -- a code of the table, by its number, that no text spells as a node
+  unspelled : ℕ → Code
 
 pub record Name : Type 0 where
   pub text : List ℕ

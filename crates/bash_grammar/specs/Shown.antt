@@ -2,7 +2,7 @@
 -- is refused and where.
 use Rattle.std.specs.Prelude.{ℕ, zero, suc, Bool, true, false, ◌==◌, List, [], ◌∷◌, ◌++◌, Option, Some, None, if◌then◌else◌, codes}
 use Rattle.span_text.specs.declared.span.Span.{Span}
-use Rattle.bash_grammar.specs.Shape.{Code, process_substitution, extended_glob, regex_test, reserved_command, indirect, case_pattern, error_expansion, special_parameter, locale_quote, old_arithmetic, ansi_escape, nested_quote, backquote, descriptor, read_write, read_substitution, function_name, arith_form, Name, FillTest, default, assigning, alternate, ReplaceAt, at_first, at_all, at_start, at_end, ItemEnd, stop, fall, test_on, RedirectOp, read, write, append, here_literal, here_expanded, here_string, copy_in, copy_out, both_out, both_append, refused_op, Part, plain, exact, double, tilde, param, subst, arith_part, compound, refused_part, Parts, no_part, part, Word, word, Words, no_word, next_word, Arith, arith, MaybeArith, no_arith, some_arith, Subscript, index, key_only, MaybeSubscript, no_subscript, some_subscript, Param, named, member, members, digits, count, status, at, star, ParamOp, as_is, length_of, keys, fill, trim, slice, replace, casing, Value, no_value, value, items_value, Element, element, Elements, no_element, next_element, Assign, assign, Assigns, no_assign, next_assign, Redirects, no_redirect, redirect, Command, command, Kind, simple, group, subshell, branching, loop, walk, arith_loop, cases, arith_command, conditional, function, refused_command, Branches, no_branch, branch, Otherwise, no_else, otherwise, ForWords, parameters, listed, Items, no_item, item, Cond, or_cond, and_cond, not_cond, text_cond, unary_cond, binary_cond, Stages, no_stage, stage, Pipeline, pipeline, Links, no_link, and_link, or_link, Chain, chain, Script, no_chain, next_chain}
+use Rattle.bash_grammar.specs.Shape.{Code, process_substitution, extended_glob, regex_test, reserved_command, indirect, case_pattern, error_expansion, special_parameter, locale_quote, old_arithmetic, ansi_escape, nested_quote, backquote, descriptor, read_write, read_substitution, function_name, arith_form, unspelled, Name, FillTest, default, assigning, alternate, ReplaceAt, at_first, at_all, at_start, at_end, ItemEnd, stop, fall, test_on, RedirectOp, read, write, append, here_literal, here_expanded, here_string, copy_in, copy_out, both_out, both_append, refused_op, Part, plain, exact, double, tilde, param, subst, arith_part, compound, refused_part, Parts, no_part, part, Word, word, Words, no_word, next_word, Arith, arith, MaybeArith, no_arith, some_arith, Subscript, index, key_only, MaybeSubscript, no_subscript, some_subscript, Param, named, member, members, digits, count, status, at, star, ParamOp, as_is, length_of, keys, fill, trim, slice, replace, casing, Value, no_value, value, items_value, Element, element, Elements, no_element, next_element, Assign, assign, Assigns, no_assign, next_assign, Redirects, no_redirect, redirect, Command, command, Kind, simple, group, subshell, branching, loop, walk, arith_loop, cases, arith_command, conditional, function, refused_command, Branches, no_branch, branch, Otherwise, no_else, otherwise, ForWords, parameters, listed, Items, no_item, item, Cond, or_cond, and_cond, not_cond, text_cond, unary_cond, binary_cond, Stages, no_stage, stage, Pipeline, pipeline, Links, no_link, and_link, or_link, Chain, chain, Script, no_chain, next_chain}
 use Rattle.bash_grammar.specs.Bytes.{Text}
 
 -- ---- numbers
@@ -47,6 +47,7 @@ code read_write = codes "readwrite"
 code read_substitution = codes "readsub"
 code function_name = codes "name"
 code arith_form = codes "arith"
+code (unspelled n) = codes "unspelled"
 
 abbrev refusal : Code → Span → Text
 refusal c s = codes "!" ++ code c ++ codes " " ++ span s ++ codes "!"
