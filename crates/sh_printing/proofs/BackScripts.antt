@@ -88,8 +88,7 @@ pieces_law (next_chain c s) from g e f =
     let says : kids (sh_with []) p.tree ≡ chain_node c ∷ [] = ap (λ (l : Lang). kids l p.tree) (sh_knows levels []) ∙ same_kids (known_in levels []) k p.tree ∙ p.says in
     record { trees = p.tree ∷ rest.trees; end = rest.end; reads = (m, at, rest.reads); ends = rest.ends; is = ap (λ (z : List Node). z ++ chains_of rest.trees) says ∙ ap (λ (z : List Node). chain_node c ∷ z) rest.is }
 
--- THE LAW: what is printed of a script that can be printed reads as the script, where each delimiter is free and no reserved word is a
--- command's name behind redirections (`list_free`).
+-- What is printed of a script that can be printed reads as the script, where each delimiter is free.
 pub reads_back : (s : shape.Script) → script_printable s ≡ true → list_free s ≡ true → Reads (printed s) s
 unfolding gap
 reads_back s e f =

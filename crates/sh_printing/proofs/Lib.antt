@@ -19,7 +19,8 @@ pub mod BackHere
 pub mod BackKept
 pub mod BackKeptTexts
 pub mod BackKeys
-pub mod BackLines
+pub mod BackLastWords
+mod BackLines
 pub mod BackLists
 pub mod BackLoops
 pub mod BackNamed
