@@ -1,5 +1,6 @@
 pub mod BackBegins
 pub mod BackBehind
+pub mod BackBounds
 pub mod BackBraces
 pub mod BackBytes
 pub mod BackCommandSteps
@@ -20,7 +21,8 @@ pub mod BackKept
 pub mod BackKeptTexts
 pub mod BackKeys
 pub mod BackLastWords
-mod BackLines
+pub mod BackLengths
+pub mod BackLines
 pub mod BackLists
 pub mod BackLoops
 pub mod BackNamed
