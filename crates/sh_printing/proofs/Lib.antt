@@ -44,3 +44,4 @@ pub mod BackTree
 pub mod BackTreeSteps
 pub mod BackWordFronts
 pub mod BackWords
+pub mod HereExamples
