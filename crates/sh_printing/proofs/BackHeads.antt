@@ -4,13 +4,13 @@ use Rattle.std.specs.Prelude.{◌||◌, ◌&&◌, not, ◌==◌, nat_lt, if◌th
 use Rattle.std.proofs.lemmas.Bool.{true≢false, false≢true}
 use Rattle.span_text.specs.Names.{is_name}
 use Rattle.sh_grammar.specs.Shape as shape
-use Rattle.sh_grammar.specs.Shape.{no_word, word, no_redirect, redirect, no_assign, assign, command, simple, group, subshell, branching, loop, walk, cases, function, no_branch, branch, stage, no_stage, pipeline, chain, no_chain, next_chain, no_link, and_link, or_link}
-use Rattle.sh_grammar.specs.Bytes.{Text, in_word, gap, is_literal, is_plain, is_active, is_meta, literal_run, unit_starts, starts}
+use Rattle.sh_grammar.specs.Shape.{no_word, word, no_redirect, redirect, no_assign, assign, command, simple, group, subshell, branching, loop, walk, cases, function, no_branch, branch, stage, no_stage, pipeline, chain, no_chain, next_chain}
+use Rattle.sh_grammar.specs.Bytes.{Text, in_word, gap, is_literal, is_plain, is_active, is_meta, literal_run}
 use Rattle.sh_grammar.specs.Tokens.{Open, Newline, code, is_token, If, For, While, Until, Case, OpenBrace, Bang, key_text, command_next, compound_next, simple_next, name_next, pipeline_next}
-use Rattle.sh_printing.specs.Marks.{End, ended, blank, led}
+use Rattle.sh_printing.specs.Marks.{End, ended, blank}
 use Rattle.sh_printing.specs.Spellable.{is_reserved_text, is_literal_text}
 use Rattle.sh_printing.specs.Printing.{parts_text, words_text, redirects_text, assigns_text, value_text, command_text, stages_text, pipeline_text, links_text, chain_text, list_text, has_assign, has_word, last_words_text, stage_end, link_end}
-use Rattle.sh_printing.specs.Printable.{word_fits, words_fit, redirects_fit, assigns_fit, name_fits, kind_fits, command_fits, stages_fit, pipeline_fits, links_fit, chain_fits, list_fits, has_redirect, has_chain, has_stage, has_branch, is_assignment, is_reserved_word, has_compound, branches_fit, otherwise_fits}
+use Rattle.sh_printing.specs.Printable.{word_fits, words_fit, redirects_fit, assigns_fit, name_fits, kind_fits, command_fits, stages_fit, pipeline_fits, links_fit, chain_fits, list_fits, has_redirect, has_chain, is_assignment, is_reserved_word, has_compound, branches_fit, otherwise_fits}
 use Rattle.sh_printing.proofs.BackBytes.{both, isnt, no_join, gap_is, literal_back}
 use Rattle.sh_printing.proofs.BackTokens.{word_ends, test_is, key_gap, key_token, open_token, key_test}
 use Rattle.sh_printing.proofs.BackBehind.{parts_on}

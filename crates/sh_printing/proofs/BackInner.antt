@@ -1,7 +1,7 @@
 -- What the induction over a script needs of the lists in its words: each reads back, so deep in bodies, where these are the bodies.
 use Rattle.std.proofs.Common.{◌≡◌, ℕ, zero, suc, ◌+◌, ◌≤◌, Bool, true, List, ◌++◌}
 use Rattle.sh_grammar.specs.Shape as shape
-use Rattle.sh_grammar.specs.Shape.{plain, exact, double, tilde, param, subst as listing, arith as sum, no_part, part, as_is, length_of, fill, trim, no_word, word, no_value, value, no_assign, assign, no_redirect, redirect, command, simple, group, subshell, branching, loop, walk, cases, function, no_branch, branch, no_else, otherwise, parameters, listed, no_item, item, no_stage, stage, pipeline, no_link, and_link, or_link, chain, no_chain, next_chain}
+use Rattle.sh_grammar.specs.Shape.{plain, exact, double, tilde, param, subst as listing, arith as sum, no_part, part, as_is, length_of, fill, trim, no_word, word, no_value, value, no_assign, assign, no_redirect, redirect}
 use Rattle.sh_grammar.specs.Bytes.{Text, gap}
 use Rattle.sh_grammar.specs.State.{Sum}
 use Rattle.sh_grammar.specs.Steps.{limit}
@@ -10,7 +10,6 @@ use Rattle.sh_printing.specs.Printing.{list_text}
 use Rattle.sh_printing.specs.Printable.{list_fits}
 use Rattle.sh_printing.proofs.BackDue.{Covers}
 use Rattle.sh_printing.proofs.BackLines.{clean}
-use Rattle.sh_printing.proofs.BackCommands.{Redirecting, Wording, close_end, by_suffix, by_prefix, suffix_words, by_redirect, key_end, key_compound, semis_end}
 use Rattle.sh_printing.proofs.BackNamed.{parts_bodies, list_bodies, list_free}
 use Rattle.sh_printing.proofs.BackTreeSteps.{Maybe}
 

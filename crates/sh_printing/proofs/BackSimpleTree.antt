@@ -5,15 +5,15 @@ use Rattle.std.proofs.lemmas.List.{append-nil}
 use Rattle.text_grammar.specs.Grammar.{star, rule}
 use Rattle.span_text.specs.Names.{is_name}
 use Rattle.sh_grammar.specs.Shape as shape
-use Rattle.sh_grammar.specs.Shape.{plain, exact, double, tilde, param, subst as listing, arith as sum, no_part, part, as_is, length_of, fill, trim, no_word, word, no_value, value, no_assign, assign, no_redirect, redirect, command, simple, group, subshell, branching, loop, walk, cases, function, no_branch, branch, no_else, otherwise, parameters, listed, no_item, item, no_stage, stage, pipeline, no_link, and_link, or_link, chain, no_chain, next_chain}
+use Rattle.sh_grammar.specs.Shape.{no_word, word, no_assign, assign, no_redirect, redirect, command, simple}
 use Rattle.sh_grammar.specs.Bytes.{Text, in_word, in_body, gap}
 use Rattle.sh_grammar.specs.State.{Sum, Node, command_node}
-use Rattle.sh_grammar.specs.Table.{Test, Rule, expansion, word_parts, prefix_begins, prefix_item, suffix_begins, suffix_item}
+use Rattle.sh_grammar.specs.Table.{Test, Rule, prefix_begins, prefix_item, suffix_begins, suffix_item}
 use Rattle.sh_grammar.specs.Table as table
 use Rattle.sh_grammar.specs.Steps.{limit}
 use Rattle.sh_grammar.proofs.Known.{known_in}
 use Rattle.sh_printing.specs.Marks as marks
-use Rattle.sh_printing.specs.Marks.{End, blank, ended, param_text}
+use Rattle.sh_printing.specs.Marks.{End, blank, ended}
 use Rattle.sh_printing.specs.Delimiters.{has_line, delimiter}
 use Rattle.sh_printing.specs.Printing.{parts_text, words_text, value_text, assigns_text, redirects_text, command_text, parts_open, last_words_text}
 use Rattle.sh_printing.specs.Printable.{parts_fit, word_fits, words_fit, value_fits, assigns_fit, redirects_fit, command_fits, kind_fits, has_redirect, fd_fits, is_copied_word, literal_body, ends_line, is_assignment, is_reserved_word}
@@ -22,7 +22,7 @@ use Rattle.sh_printing.proofs.BackDue.{Due, named, named_after, st, after, pendi
 use Rattle.sh_printing.proofs.BackBytes.{both, isnt, three}
 use Rattle.sh_printing.proofs.BackBehind.{parts_on, body_closes}
 use Rattle.sh_printing.proofs.BackWordFronts.{word_begins}
-use Rattle.sh_printing.proofs.BackRedirects.{read_says, write_says, append_says, unit_aimed, op_text}
+use Rattle.sh_printing.proofs.BackRedirects.{read_says, write_says, append_says, unit_aimed}
 use Rattle.sh_printing.proofs.BackLines.{clean}
 use Rattle.sh_printing.proofs.BackCommands.{Redirecting, by_suffix, by_prefix, suffix_words}
 use Rattle.sh_printing.proofs.BackLists.{due, On, covers_on}

@@ -8,14 +8,13 @@ use Rattle.span_text.specs.Names.{is_name}
 use Rattle.sh_grammar.specs.Shape as shape
 use Rattle.sh_grammar.specs.Shape.{plain, exact, double, tilde, param, subst as listing, arith as sum, no_part, part, as_is, length_of, fill, trim, no_word, word, no_value, value, no_assign, assign, no_redirect, redirect, command, simple, group, subshell, branching, loop, walk, cases, function, no_branch, branch, no_else, otherwise, parameters, listed, no_item, item, no_stage, stage, pipeline, no_link, and_link, or_link, chain, no_chain, next_chain}
 use Rattle.sh_grammar.specs.Bytes.{Text, in_word, gap}
-use Rattle.sh_grammar.specs.Tokens.{Newline, Word, Open, is_token, key_text, Key, tilde_next, Pipe, Bang, Do, Done, OpenBrace, CloseBrace, If, For, While, Until, Case, Then, Elif, Else, Fi, Esac}
-use Rattle.sh_grammar.specs.State.{State, Sum, Node, part_node, word_node, assign_node, command_node, kind_node, pipeline_node, chain_node, script_node}
-use Rattle.sh_grammar.specs.Table.{Test, Rule, expansion, word_parts, prefix_begins, prefix_item, suffix_begins, suffix_item}
+use Rattle.sh_grammar.specs.Tokens.{Newline, Word, Pipe, Bang, Elif}
+use Rattle.sh_grammar.specs.State.{State, Sum, command_node, kind_node, pipeline_node, chain_node}
 use Rattle.sh_grammar.specs.Table as table
 use Rattle.sh_grammar.specs.Steps.{limit}
 use Rattle.sh_grammar.proofs.Known.{known_in}
 use Rattle.sh_printing.specs.Marks as marks
-use Rattle.sh_printing.specs.Marks.{End, blank, ended, param_text}
+use Rattle.sh_printing.specs.Marks.{End, blank, ended}
 use Rattle.sh_printing.specs.Printing.{parts_text, words_text, redirects_text, command_text, kind_text, list_text, parts_open, stages_text, pipeline_text, links_text, chain_text, stage_end, link_end, branches_text, otherwise_text, patterns_text, items_text}
 use Rattle.sh_printing.specs.Printable.{parts_fit, word_fits, words_fit, patterns_fit, redirects_fit, command_fits, kind_fits, list_fits, has_part, has_redirect, plain_begins, stages_fit, pipeline_fits, links_fit, chain_fits, is_compound, has_chain, branches_fit, otherwise_fits, items_fit}
 use Rattle.sh_printing.proofs.BackSays.{Says, ◌then◌, saying, to_state}
@@ -25,8 +24,8 @@ use Rattle.sh_printing.proofs.BackTokens.{Outside}
 use Rattle.sh_printing.proofs.BackBehind.{parts_on}
 use Rattle.sh_printing.proofs.BackBraces.{right_four}
 use Rattle.sh_printing.proofs.BackWordFronts.{word_begins}
-use Rattle.sh_printing.proofs.BackLines.{clean, Goes}
-use Rattle.sh_printing.proofs.BackCommands.{Redirecting, Wording, close_end, by_suffix, by_prefix, suffix_words, by_redirect, key_end, key_compound, semis_end}
+use Rattle.sh_printing.proofs.BackLines.{clean}
+use Rattle.sh_printing.proofs.BackCommands.{close_end, by_redirect, semis_end}
 use Rattle.sh_printing.proofs.BackLists.{due, On, covers_on, MoreTo, carry_pipeline, no_stages, pipe_says, one_stage, no_links, and_says, or_says, one_and, one_or, separator_says, end_of_list, next_of_list}
 use Rattle.sh_printing.proofs.BackNamed.{parts_bodies, words_bodies, redirects_bodies, parts_free, words_free, redirects_free, parts_closed, list_bodies, list_free, command_bodies, kind_bodies, stages_bodies, pipeline_bodies, links_bodies, chain_bodies, command_free, kind_free, stages_free, pipeline_free, links_free, chain_free, branches_bodies, otherwise_bodies, branches_free, otherwise_free, items_bodies, items_free}
 use Rattle.sh_printing.proofs.BackNodes.{word_nodes, stage_nodes, link_nodes, chain_nodes}

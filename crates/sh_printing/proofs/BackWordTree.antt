@@ -6,10 +6,10 @@ use Rattle.std.proofs.lemmas.List.{append-nil}
 use Rattle.text_grammar.specs.Grammar.{star, rule}
 use Rattle.span_text.specs.Names.{is_name}
 use Rattle.sh_grammar.specs.Shape as shape
-use Rattle.sh_grammar.specs.Shape.{plain, exact, double, tilde, param, subst as listing, arith as sum, no_part, part, as_is, length_of, fill, trim, no_word, word, no_value, value, no_assign, assign, no_redirect, redirect, command, simple, group, subshell, branching, loop, walk, cases, function, no_branch, branch, no_else, otherwise, parameters, listed, no_item, item, no_stage, stage, pipeline, no_link, and_link, or_link, chain, no_chain, next_chain}
+use Rattle.sh_grammar.specs.Shape.{plain, exact, double, tilde, param, subst as listing, arith as sum, no_part, part, as_is, length_of, fill, trim, no_word, word, no_value, value, no_assign, assign}
 use Rattle.sh_grammar.specs.Bytes.{Text, Context, in_word, in_double, has_double, fill_context, trim_context, gap}
 use Rattle.sh_grammar.specs.State.{State, Sum, Node, part_node, word_node, assign_node}
-use Rattle.sh_grammar.specs.Table.{Test, Rule, expansion, word_parts, prefix_begins, prefix_item, suffix_begins, suffix_item}
+use Rattle.sh_grammar.specs.Table.{Test, Rule, expansion, prefix_begins, prefix_item}
 use Rattle.sh_grammar.specs.Table as table
 use Rattle.sh_grammar.specs.Steps.{limit}
 use Rattle.sh_grammar.proofs.Known.{known_in}
@@ -37,7 +37,6 @@ use Rattle.sh_printing.proofs.BackBegins.{word_first, words_outside, assigns_out
 use Rattle.sh_printing.proofs.BackHeads.{list_no_line}
 use Rattle.sh_printing.proofs.BackSimpleSteps.{words_step, assigns_step}
 use Rattle.sh_printing.proofs.BackTreeSteps.{covers_alone, covers_settled, deeper, operand_wrap, pattern_step, patterns_outside}
-use Rattle.sh_printing.proofs.BackSimple.{carry_key, word_no_redirect, word_token, redirect_simple, carry_token, carry_keys, name_word}
 use Rattle.sh_printing.proofs.BackLoops.{PatternsTo, no_patterns, one_pattern}
 use Rattle.sh_printing.proofs.BackInner.{PartLists, PartsLists, WordsLists, ValueLists, AssignsLists}
 
