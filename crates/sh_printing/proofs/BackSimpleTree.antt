@@ -36,7 +36,7 @@ use Rattle.sh_printing.proofs.BackBegins.{word_first, words_outside, assigns_out
 use Rattle.sh_printing.proofs.BackHeads.{last_split, last_redirected, simple_facts, word_split, assign_split}
 use Rattle.sh_printing.proofs.BackCommandSteps.{literal_target, expanded_target, word_owed, copied_target, copied_closed, redirects_step, redirects_on, no_redirects, StartsAs, starts_same, Lasts, ended_lasts}
 use Rattle.sh_printing.proofs.BackSimpleSteps.{name_first, redirect_first, assign_first, prefix_stops, suffix_stops}
-use Rattle.sh_printing.proofs.BackLastWords.{last_outside, words_last, redirects_at, starts_behind, either, last_word_step}
+use Rattle.sh_printing.proofs.BackLastWords.{last_outside, words_lasts, redirects_at, starts_behind, either, last_word_step}
 use Rattle.sh_printing.proofs.BackTreeSteps.{copied_covers, here_covers, here_step, known_bodies, nothing_fits, on_all, on_at}
 use Rattle.sh_printing.proofs.BackSimple.{word_no_redirect, word_token, redirect_simple}
 use Rattle.sh_printing.proofs.BackFirst.{first_front, first_simple}
@@ -181,7 +181,7 @@ simple_law n ds i d q f end no_assign (word w ws) rs bytes t la lw lr h D e r co
     let fr = redirects_at i d last [] rs t hr x.1 in
     let in_order : command_bodies (command (simple no_assign (word w ws)) rs) ≡ rb ++ wb = ap (λ (b : Bool). if b then rb ++ wb else wb ++ rb) l in
     let c = subst (λ (b : List Text). Covers k (clean f) b) in_order cov in
-    let on = redirects_law n ds i d q (clean f) false last rs t prefix_begins prefix_item by_prefix (words_last i d end w ws t sf.words nm) lr h D x.1 y.1 (covers_first k (clean f) rb wb c) bytes (starts_behind rs bytes v hr (gv ∙ sym fr.solid)) in
+    let on = redirects_law n ds i d q (clean f) false last rs t prefix_begins prefix_item by_prefix (words_lasts i d end w ws t sf.words nm) lr h D x.1 y.1 (covers_first k (clean f) rb wb c) bytes (starts_behind rs bytes v hr (gv ∙ sym fr.solid)) in
     let m = due on.owing on.found in
     let all : named m ++ wb ≡ f ++ command_bodies (command (simple no_assign (word w ws)) rs) = ap (λ (b : List Text). b ++ wb) (on.is_all ∙ ap (λ (b : List Text). b ++ rb) (append-nil f)) ∙ append_assoc f rb wb ∙ ap (λ (b : List Text). f ++ b) (sym in_order) in
     redirect_first k d q f bytes v (st d q m (last (pending_text m.owing) ++ t)) end t (word w ws) rs (f ++ command_bodies (command (simple no_assign (word w ws)) rs)) gv (redirect_simple v fr) (Rattle.sh_printing.proofs.BackRedirects.redirect_begins v bytes fr gv) on.says
