@@ -12,6 +12,9 @@ use Rattle.sh_parser.specs.declared.table.Unit.{Unit}
 use Rattle.sh_parser.specs.declared.table.Item.{Item}
 use Rattle.sh_parser.specs.declared.table.Item.TheVariants as items
 use Rattle.sh_parser.specs.Tables.{unit, test, chosen, items_gram, is_small}
+use Rattle.sh_parser.specs.Tasks as tasks
+use Rattle.sh_parser.specs.Tasks.{Todo, then_items, is_ready, all_ready}
+use Rattle.sh_parser.proofs.Going.{body_small}
 
 cond_is : (P : Gram → Type 0) (b : Bool) (g h : Gram) → P g → P h → P (cond b g h)
 cond_is P true g h p q = p
@@ -60,8 +63,30 @@ pub items_are : (xs : List Item) (d x : Item) → 1 ≤ length xs → get_or xs 
 items_are [] d x l e = absurd (omega arith)
 items_are (y ∷ ys) d x l e = rw (one_off (length ys), take_all ys) (ap (λ (z : Item). z ∷ ys) e)
 
-pub rest_small : (x : Item) (xs rest : List Item) → xs ≡ x ∷ rest → is_small (items_gram xs) ≡ true → is_small (items_gram rest) ≡ true
-rest_small x xs rest e r = small_rest x rest (subst (λ (z : List Item). is_small (items_gram z) ≡ true) e r)
+-- ---- tasks whose repetitions take bytes
 
-pub star_small : (t : _) (u : Unit) (xs rest : List Item) → xs ≡ items.Star t u ∷ rest → is_small (items_gram xs) ≡ true → is_small (star (test t) (unit u)) ≡ true
-star_small t u xs rest e r = small_star t u rest (subst (λ (z : List Item). is_small (items_gram z) ≡ true) e r)
+both : (a b : Bool) → a ≡ true → b ≡ true → (a && b) ≡ true
+both true b e f = f
+both false b e f = absurd cc
+
+pub items_ready : (is : List Item) (ts : List Todo) → all_ready (tasks.items is ∷ ts) ≡ true → (is_small (items_gram is) ≡ true) × (all_ready ts ≡ true)
+items_ready is ts e = both_true (is_small (items_gram is)) (all_ready ts) e
+
+pub ready_items : (is : List Item) (ts : List Todo) → is_small (items_gram is) ≡ true → all_ready ts ≡ true → all_ready (tasks.items is ∷ ts) ≡ true
+ready_items is ts e f = both (is_small (items_gram is)) (all_ready ts) e f
+
+pub rest_ready : (x : Item) (rest : List Item) (ts : List Todo) → all_ready (tasks.items (x ∷ rest) ∷ ts) ≡ true → all_ready (then_items rest ts) ≡ true
+rest_ready x [] ts e = (items_ready (x ∷ []) ts e).1
+rest_ready x (y ∷ ys) ts e = let p = items_ready (x ∷ y ∷ ys) ts e in ready_items (y ∷ ys) ts (small_rest x (y ∷ ys) p.0) p.1
+
+pub star_ready : (i : Item) (t : _) (u : Unit) (rest : List Item) (ts : List Todo) → i ≡ items.Star t u → all_ready (tasks.items (i ∷ rest) ∷ ts) ≡ true → all_ready (tasks.turns t u ∷ then_items rest ts) ≡ true
+star_ready i t u rest ts q a =
+    let e : all_ready (tasks.items (items.Star t u ∷ rest) ∷ ts) ≡ true = subst (λ (x : Item). all_ready (tasks.items (x ∷ rest) ∷ ts) ≡ true) q a in
+    both (is_small (star (test t) (unit u))) (all_ready (then_items rest ts)) (small_star t u rest (items_ready (items.Star t u ∷ rest) ts e).0) (rest_ready (items.Star t u) rest ts e)
+
+pub rule_ready : (r : Rule) (is : List Item) (bytes : Text) (ts : List Todo) → items_gram is ≡ chosen (body r) bytes → all_ready ts ≡ true → all_ready (tasks.items is ∷ ts) ≡ true
+rule_ready r is bytes ts e f = ready_items is ts (subst (λ (g : Gram). is_small g ≡ true) (sym e) (chosen_small (body r) bytes (body_small r))) f
+
+-- the first of them, and those behind it
+pub first_ready : (t : Todo) (ts : List Todo) → all_ready (t ∷ ts) ≡ true → (is_ready t ≡ true) × (all_ready ts ≡ true)
+first_ready t ts e = both_true (is_ready t) (all_ready ts) e

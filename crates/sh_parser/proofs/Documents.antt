@@ -5,8 +5,7 @@ use Rattle.std.proofs.lemmas.Bool.Decides.{nat_tests}
 use Rattle.std.proofs.lemmas.List.{map_push}
 use Rattle.text_grammar.specs.Grammar.{rule, Leaf, said}
 use Rattle.text_grammar.specs.Answers.{FailsAs}
-use Rattle.text_grammar.specs.Values.{vals, behind, stepped}
-use Rattle.text_grammar.proofs.Rules.{behind_nil}
+use Rattle.text_grammar.specs.Values.{vals, stepped}
 use Rattle.text_grammar.proofs.Tools.{some_is}
 use Rattle.sh_grammar.specs.Shape as shape
 use Rattle.sh_grammar.specs.Shape.{here_literal, here_expanded}
@@ -135,32 +134,32 @@ expanded_is zero ds depth text e f = absurd (e refl)
 expanded_is (suc n) ds depth [] e f = absurd cc
 expanded_is (suc n) ds depth (b ∷ bs) e f = rw (one_off n) refl
 
-pub first_fails : (q : Bool) (n : ℕ) (ds : List Text) (depth : ℕ) (text : Text) → (n ≡ 0 → ⊥) → (length text == 0) ≡ false → FailsAs q (behind [] (reads_body (n - 1) [] depth text)) → FailsAs q (expanded_parts (known n ds) depth text)
+pub first_fails : (q : Bool) (n : ℕ) (ds : List Text) (depth : ℕ) (text : Text) → (n ≡ 0 → ⊥) → (length text == 0) ≡ false → FailsAs q (reads_body (n - 1) [] depth text) → FailsAs q (expanded_parts (known n ds) depth text)
 first_fails true n ds depth text e f d = tt
-first_fails false n ds depth text e f d = rw (expanded_is n ds depth text e f, sym (behind_nil (reads_body (n - 1) [] depth text)) ∙ d) refl
+first_fails false n ds depth text e f d = rw (expanded_is n ds depth text e f, d) refl
 
-pub second_is : (n : ℕ) (ds : List Text) (depth : ℕ) (text : Text) (k : List Node) (m : State) → (n ≡ 0 → ⊥) → (length text == 0) ≡ false → behind [] (reads_body (n - 1) [] depth text) ≡ Some (k, m) →
+pub second_is : (n : ℕ) (ds : List Text) (depth : ℕ) (text : Text) (k : List Node) (m : State) → (n ≡ 0 → ⊥) → (length text == 0) ≡ false → reads_body (n - 1) [] depth text ≡ Some (k, m) →
     expanded_parts (known n ds) depth text ≡ second (n - 1) depth text m.found
-second_is n ds depth text k m e f d = rw (expanded_is n ds depth text e f, sym (behind_nil (reads_body (n - 1) [] depth text)) ∙ d) refl
+second_is n ds depth text k m e f d = rw (expanded_is n ds depth text e f, d) refl
 
 nothing : (xs : List Text) → length xs ≡ 0 → xs ≡ []
 nothing [] e = refl
 nothing (x ∷ xs) e = absurd (omega arith)
 
 -- no here-document stands in it
-pub once : (n : ℕ) (ds : List Text) (depth : ℕ) (text : Text) (k : List Node) (m : State) → (n ≡ 0 → ⊥) → (length text == 0) ≡ false → length m.found ≡ 0 → behind [] (reads_body (n - 1) [] depth text) ≡ Some (k, m) →
+pub once : (n : ℕ) (ds : List Text) (depth : ℕ) (text : Text) (k : List Node) (m : State) → (n ≡ 0 → ⊥) → (length text == 0) ≡ false → length m.found ≡ 0 → reads_body (n - 1) [] depth text ≡ Some (k, m) →
     expanded_parts (known n ds) depth text ≡ Some (word_in k)
 once n ds depth text k m e f none d =
-    second_is n ds depth text k m e f d ∙ rw (nothing m.found none, sym (behind_nil (reads_body (n - 1) [] depth text)) ∙ d) refl
+    second_is n ds depth text k m e f d ∙ rw (nothing m.found none, d) refl
 
-pub second_fails : (q : Bool) (n : ℕ) (ds : List Text) (depth : ℕ) (text : Text) (k : List Node) (m : State) → (n ≡ 0 → ⊥) → (length text == 0) ≡ false → behind [] (reads_body (n - 1) [] depth text) ≡ Some (k, m) →
-    FailsAs q (behind [] (reads_body (n - 1) m.found depth text)) → FailsAs q (expanded_parts (known n ds) depth text)
+pub second_fails : (q : Bool) (n : ℕ) (ds : List Text) (depth : ℕ) (text : Text) (k : List Node) (m : State) → (n ≡ 0 → ⊥) → (length text == 0) ≡ false → reads_body (n - 1) [] depth text ≡ Some (k, m) →
+    FailsAs q (reads_body (n - 1) m.found depth text) → FailsAs q (expanded_parts (known n ds) depth text)
 second_fails true n ds depth text k m e f d g = tt
-second_fails false n ds depth text k m e f d g = second_is n ds depth text k m e f d ∙ rw (sym (behind_nil (reads_body (n - 1) m.found depth text)) ∙ g) refl
+second_fails false n ds depth text k m e f d g = second_is n ds depth text k m e f d ∙ rw g refl
 
-pub twice : (n : ℕ) (ds : List Text) (depth : ℕ) (text : Text) (k l : List Node) (m o : State) → (n ≡ 0 → ⊥) → (length text == 0) ≡ false → behind [] (reads_body (n - 1) [] depth text) ≡ Some (k, m) →
-    behind [] (reads_body (n - 1) m.found depth text) ≡ Some (l, o) → expanded_parts (known n ds) depth text ≡ Some (word_in l)
-twice n ds depth text k l m o e f d g = second_is n ds depth text k m e f d ∙ rw (sym (behind_nil (reads_body (n - 1) m.found depth text)) ∙ g) refl
+pub twice : (n : ℕ) (ds : List Text) (depth : ℕ) (text : Text) (k l : List Node) (m o : State) → (n ≡ 0 → ⊥) → (length text == 0) ≡ false → reads_body (n - 1) [] depth text ≡ Some (k, m) →
+    reads_body (n - 1) m.found depth text ≡ Some (l, o) → expanded_parts (known n ds) depth text ≡ Some (word_in l)
+twice n ds depth text k l m o e f d g = second_is n ds depth text k m e f d ∙ rw g refl
 
 known_bodies : (n : ℕ) (ds : List Text) → (known n ds).bodies ≡ ds
 unfolding known

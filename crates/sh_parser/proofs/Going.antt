@@ -24,7 +24,7 @@ use Rattle.sh_parser.specs.declared.table.Unit.TheVariants as units
 use Rattle.sh_parser.specs.declared.table.Item.{Item}
 use Rattle.sh_parser.specs.declared.table.Item.TheVariants as items
 use Rattle.sh_parser.specs.Tables as tables
-use Rattle.sh_parser.specs.Tables.{unit, test, items_gram, chosen, deep, is_small}
+use Rattle.sh_parser.specs.Tables.{unit, test, items_gram, chosen, is_small}
 use Rattle.std.proofs.lemmas.List.{map-append, append-nil}
 use Rattle.sh_parser.specs.declared.values.Value.{Value}
 use Rattle.sh_parser.specs.Values.{value_node, nodes}
@@ -114,7 +114,7 @@ stars_go n ds t u (y ∷ ys) xs s = refl
 -- ---- repetitions
 
 -- what is read behind nothing, and put behind what was read before
-go_behind : (n : ℕ) (ds : List Text) (g : Gram) (xs : List Node) (s : State) → goes n ds g xs s ≡ behind xs (eval (run_step (known n ds)) holds (vals (sh n ds)) g s)
+pub go_behind : (n : ℕ) (ds : List Text) (g : Gram) (xs : List Node) (s : State) → goes n ds g xs s ≡ behind xs (eval (run_step (known n ds)) holds (vals (sh n ds)) g s)
 unfolding sh known
 go_behind zero ds g xs s = go_is (sh zero ds) g xs s
 go_behind (suc n) ds g xs s = go_is (sh (suc n) ds) g xs s

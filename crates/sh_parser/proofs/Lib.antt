@@ -17,3 +17,4 @@ pub mod Documents
 pub mod Picked
 pub mod Levels
 pub mod Turning
+pub mod Stack

@@ -1,11 +1,12 @@
 -- What is still to be read.
-use Rattle.std.specs.Prelude.{ℕ, Bool, true, ◌&&◌, List, [], ◌∷◌, ◌++◌, map, reverse, Option, Some, ◌≡◌, Result, Ok, Err}
+use Rattle.std.specs.Prelude.{ℕ, Bool, true, false, ◌&&◌, List, [], ◌∷◌, ◌++◌, map, reverse, Option, Some, ◌≡◌, Result, Ok, Err}
 use Rattle.text_grammar.specs.Grammar.{star, rule}
 use Rattle.text_grammar.specs.Ranks.{small}
 use Rattle.text_grammar.specs.Values.{vals, behind, go}
 use Rattle.sh_grammar.specs.Bytes.{Text}
 use Rattle.sh_grammar.specs.Expansions.{◌>>=◌}
 use Rattle.sh_grammar.specs.State.{State, Node}
+use Rattle.sh_grammar.specs.Table as table
 use Rattle.sh_grammar.specs.Table.{Rule, Gram}
 use Rattle.sh_grammar.specs.Steps.{run_step, holds}
 use Rattle.sh_grammar.specs.Acts.{act}
@@ -36,7 +37,6 @@ pub data Todo : Type 0 where
 
 abbrev pub todo_of : Task → Todo
 todo_of (tasks.Items is) = items is.now
-todo_of (tasks.Unit u) = unit u
 todo_of tasks.Here = unit units.Here
 todo_of (tasks.Star t u) = turns t u
 todo_of (tasks.Make r front span) = make (tables.rule r) (nodes front)
@@ -44,6 +44,11 @@ todo_of (tasks.Make r front span) = make (tables.rule r) (nodes front)
 -- the last task of the stack comes first
 abbrev pub todos : List Task → List Todo
 todos ts = reverse (map todo_of ts)
+
+-- items in front of tasks, if there are any
+abbrev pub then_items : List Item → List Todo → List Todo
+then_items [] ts = ts
+then_items (x ∷ xs) ts = items (x ∷ xs) ∷ ts
 
 -- what a grammar reads, behind what was read before
 abbrev pub goes : ℕ → List Text → Gram → List Node → State → Option (List Node × State)
@@ -72,3 +77,37 @@ all_ready (t ∷ ts) = is_ready t && all_ready ts
 abbrev pub Turns : {X Y : Type 0} → Result X Stop → (X → Option Y) → Option Y → Type 0
 Turns (Ok x) after before = before ≡ after x
 Turns (Err e) after before = FailsAs (is_memory e) before
+
+-- rules that give back the values below them
+abbrev pub leads_on : Rule → Bool
+leads_on table.piece = true
+leads_on table.line_piece = true
+leads_on table.complete = true
+leads_on table.complete_more = true
+leads_on table.list_more = true
+leads_on table.lines = true
+leads_on table.link = true
+leads_on table.stage = true
+leads_on table.command = true
+leads_on table.compound = true
+leads_on table.other_compound = true
+leads_on table.elif_branch = true
+leads_on table.do_body = true
+leads_on table.for_words = true
+leads_on table.case_in = true
+leads_on table.pattern_more = true
+leads_on table.item_end = true
+leads_on table.prefixed = true
+leads_on table.called = true
+leads_on table.suffix = true
+leads_on table.prefix_item = true
+leads_on table.suffix_item = true
+leads_on table.target = true
+leads_on table.word_parts = true
+leads_on table.more_parts = true
+leads_on (table.part x) = true
+leads_on (table.expansion x) = true
+leads_on (table.braces x) = true
+leads_on table.sum_part = true
+leads_on table.sum_group = true
+leads_on r = false

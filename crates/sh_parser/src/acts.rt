@@ -9,6 +9,7 @@ ghost use Rattle.sh_parser.specs.Values.{nodes};
 
 mod commands;
 mod empty;
+mod leading;
 mod lists;
 mod loops;
 mod simple;
@@ -18,6 +19,7 @@ mod words;
 use crate::fault::Stop;
 use crate::table::Rule;
 use crate::values::Value;
+pub use leading::leads_on;
 pub use lists::chains_of;
 use span_text::{List, Span};
 use std::alloc::Global;

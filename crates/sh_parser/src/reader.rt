@@ -18,13 +18,13 @@ ghost use Rattle.sh_parser.specs.Values.{value_node, nodes};
 ghost use Rattle.sh_parser.specs.Views.{known, state};
 
 use crate::fault::Stop;
-use crate::notes::{Notes, span_of, word_of_parts};
+use crate::notes::{Notes, word_of_parts};
 use crate::redirects::{body_of, here_front, here_operator, plain_parts};
 use crate::table::{Rule, Unit, WordRule};
-use crate::tasks::{Task, items_turn, make_turn, star_turn, unit_turn};
+use crate::tasks::{Task, turn, unit_turn};
 use crate::values::{Value, with};
 use sh_syntax::Word;
-use span_text::{List, Span, Text};
+use span_text::{List, Text};
 use std::alloc::Global;
 
 /// How many turns are made: no text that fits the memory takes more.
@@ -43,9 +43,15 @@ pub fn rule_of<'a>(
     ensures { Gives (λ x. (nodes x.0, state x.1.now notes.new)) result (vals (sh levels bodies.now) (rule (tables.rule wanted)) (state bytes.now notes.old)) }
 {
     let mut tasks = Vec::new(alloc);
-    tasks.push(Task::Unit(Unit::Rule(wanted)))?;
-    let mut values = List::new(alloc);
-    let mut rest = bytes;
+    let start = unit_turn(
+        alloc,
+        Unit::Rule(wanted),
+        List::new(alloc),
+        bytes,
+        &mut tasks,
+        notes,
+    )?;
+    let (mut values, mut rest) = start;
     let mut left = TURNS;
     'turns: loop {
         if left == 0 {
@@ -54,31 +60,17 @@ pub fn rule_of<'a>(
         left -= 1;
         match tasks.pop() {
             None => return Ok((values, rest)),
-            Some(Task::Items(items)) => items_turn(items, rest, &mut tasks)?,
-            Some(Task::Star(test, unit)) => star_turn(test, unit, rest, &mut tasks)?,
-            Some(Task::Make(rule, front, from)) => {
-                let span = until(from, span_of(notes, rest, rest));
-                values = make_turn(alloc, rule, front, values, span)?;
-            }
             Some(Task::Here) => {
                 let (value, after) = here_of(alloc, levels, bodies, rest, notes)?;
                 values = with(values, Some(value))?;
                 rest = after;
             }
-            Some(Task::Unit(unit)) => {
-                let (more, after) = unit_turn(alloc, unit, values, rest, &mut tasks, notes)?;
+            Some(task) => {
+                let (more, after) = turn(alloc, task, values, rest, &mut tasks, notes)?;
                 values = more;
                 rest = after;
             }
         }
-    }
-}
-
-/// From where the one begins to where the other ends.
-fn until(from: Span, to: Span) -> Span {
-    Span {
-        from: from.from,
-        to: to.to,
     }
 }
 

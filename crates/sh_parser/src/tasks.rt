@@ -9,11 +9,11 @@ ghost use Rattle.sh_grammar.specs.State.{State, Node};
 ghost use Rattle.sh_parser.specs.Answers.{Gives};
 ghost use Rattle.sh_parser.specs.Tables as tables;
 ghost use Rattle.sh_parser.specs.Tasks as tasks_of;
-ghost use Rattle.sh_parser.specs.Tasks.{todos, go_on, all_ready, is_ready, Turns};
+ghost use Rattle.sh_parser.specs.Tasks.{todo_of, todos, then_items, go_on, all_ready, is_ready, Turns};
 ghost use Rattle.sh_parser.specs.Values.{nodes};
 ghost use Rattle.sh_parser.specs.Views.{state};
 
-use crate::acts::act;
+use crate::acts::{act, leads_on};
 use crate::ahead::holds;
 use crate::fault::Stop;
 use crate::gaps::gap;
@@ -30,7 +30,6 @@ use std::alloc::Global;
 pub enum Task {
     /// Items one behind the other.
     Items(&'static [Item]),
-    Unit(Unit),
     /// A here-document.
     Here,
     /// The unit again and again, as long as the test holds.
@@ -39,16 +38,17 @@ pub enum Task {
     Make(Rule, List<Value>, Span),
 }
 
-/// A unit is next.
-fn push_unit(unit: Unit, tasks: &mut Vec<Task>) -> Result<(), Stop>
-    ensures pushed { Gives (λ _. todos tasks.new.items) result (Some (tasks_of.unit unit ∷ todos tasks.old.items)) }
-    ensures ready { IfOk result (λ _. all_ready (todos tasks.old.items) ≡ true → all_ready (todos tasks.new.items) ≡ true) }
+/// The items are next, if there are any.
+fn push_items(items: &'static [Item], tasks: &mut Vec<Task>) -> Result<(), Stop>
+    ensures { Gives (λ _. todos tasks.new.items) result (Some (then_items items.now (todos tasks.old.items))) }
 {
-    match unit {
-        Unit::Here => tasks.push(Task::Here)?,
-        other => tasks.push(Task::Unit(other))?,
+    match items {
+        [] => Ok(()),
+        [_, ..] => {
+            tasks.push(Task::Items(items))?;
+            Ok(())
+        }
     }
-    Ok(())
 }
 
 /// The one where the test holds, else the other.
@@ -58,52 +58,65 @@ fn side(test: Test, one: Unit, other: Unit, bytes: &[u8]) -> Unit
     if holds(test, bytes) { one } else { other }
 }
 
-/// The first of the items is next, and behind it the others.
-pub fn items_turn(items: &'static [Item], bytes: &[u8], tasks: &mut Vec<Task>) -> Result<(), Stop>
-    ensures turns { (n : ℕ) (ds : List Bytes) (xs : List Node) (s : State) → s.bytes ≡ bytes.now → Turns result (λ _. go_on n ds (todos tasks.new.items) xs s) (go_on n ds (tasks_of.items items.now ∷ todos tasks.old.items) xs s) }
+/// What is read at once of an item with others behind it, which are still to be read.
+fn next_unit(
+    item: Item,
+    rest: &'static [Item],
+    bytes: &[u8],
+    tasks: &mut Vec<Task>,
+) -> Result<Unit, Stop>
+    ensures turns { (n : ℕ) (ds : List Bytes) (xs : List Node) (s : State) → s.bytes ≡ bytes.now → Turns result (λ u. go_on n ds (tasks_of.unit u ∷ todos tasks.new.items) xs s) (go_on n ds (tasks_of.items (item ∷ rest.now) ∷ todos tasks.old.items) xs s) }
+    ensures ready { IfOk result (λ _. all_ready (tasks_of.items (item ∷ rest.now) ∷ todos tasks.old.items) ≡ true → all_ready (todos tasks.new.items) ≡ true) }
+{
+    match item {
+        Item::One(unit) => {
+            push_items(rest, tasks)?;
+            Ok(unit)
+        }
+        Item::If(test, one, other) => {
+            push_items(rest, tasks)?;
+            Ok(side(test, one, other, bytes))
+        }
+        Item::Where(test) => if holds(test, bytes) {
+            push_items(rest, tasks)?;
+            Ok(Unit::Pass)
+        } else {
+            Ok(Unit::Pass)
+        },
+        Item::Star(test, again) => {
+            push_items(rest, tasks)?;
+            tasks.push(Task::Star(test, again))?;
+            Ok(Unit::Pass)
+        }
+    }
+}
+
+/// What is read at once of the items; those behind it are still to be read.
+fn items_unit(items: &'static [Item], bytes: &[u8], tasks: &mut Vec<Task>) -> Result<Unit, Stop>
+    ensures turns { (n : ℕ) (ds : List Bytes) (xs : List Node) (s : State) → s.bytes ≡ bytes.now → Turns result (λ u. go_on n ds (tasks_of.unit u ∷ todos tasks.new.items) xs s) (go_on n ds (tasks_of.items items.now ∷ todos tasks.old.items) xs s) }
     ensures ready { IfOk result (λ _. all_ready (tasks_of.items items.now ∷ todos tasks.old.items) ≡ true → all_ready (todos tasks.new.items) ≡ true) }
 {
     match items {
-        [] => Ok(()),
-        [first, rest @ ..] => match *first {
-            Item::One(unit) => {
-                tasks.push(Task::Items(rest))?;
-                push_unit(unit, tasks)
-            }
-            Item::If(test, one, other) => {
-                tasks.push(Task::Items(rest))?;
-                push_unit(side(test, one, other, bytes), tasks)
-            }
-            Item::Where(test) => if holds(test, bytes) {
-                tasks.push(Task::Items(rest))?;
-                Ok(())
-            } else {
-                Ok(())
-            },
-            Item::Star(test, unit) => {
-                tasks.push(Task::Items(rest))?;
-                tasks.push(Task::Star(test, unit))?;
-                Ok(())
-            }
-        },
+        [] => Ok(Unit::Pass),
+        [first, rest @ ..] => next_unit(*first, rest, bytes, tasks),
     }
 }
 
-/// The unit once more, where the test holds.
-pub fn star_turn(test: Test, unit: Unit, bytes: &[u8], tasks: &mut Vec<Task>) -> Result<(), Stop>
+/// The unit once more where the test holds, and the repetition again behind it.
+fn star_unit(test: Test, unit: Unit, bytes: &[u8], tasks: &mut Vec<Task>) -> Result<Unit, Stop>
     requires { is_ready (tasks_of.turns test unit) ≡ true }
-    ensures turns { (n : ℕ) (ds : List Bytes) (xs : List Node) (s : State) → s.bytes ≡ bytes.now → Turns result (λ _. go_on n ds (todos tasks.new.items) xs s) (go_on n ds (tasks_of.turns test unit ∷ todos tasks.old.items) xs s) }
+    ensures turns { (n : ℕ) (ds : List Bytes) (xs : List Node) (s : State) → s.bytes ≡ bytes.now → Turns result (λ u. go_on n ds (tasks_of.unit u ∷ todos tasks.new.items) xs s) (go_on n ds (tasks_of.turns test unit ∷ todos tasks.old.items) xs s) }
     ensures ready { IfOk result (λ _. all_ready (todos tasks.old.items) ≡ true → all_ready (todos tasks.new.items) ≡ true) }
 {
-    if !holds(test, bytes) {
-        return Ok(());
+    if holds(test, bytes) {
+        tasks.push(Task::Star(test, unit))?;
+        return Ok(unit);
     }
-    tasks.push(Task::Star(test, unit))?;
-    push_unit(unit, tasks)
+    Ok(Unit::Pass)
 }
 
 /// The rule's values are made of those that were read in it, and come behind those before it.
-pub fn make_turn(
+fn make_turn(
     alloc: Global,
     rule: Rule,
     front: List<Value>,
@@ -124,6 +137,29 @@ fn place_of(rule: Rule, bytes: &[u8]) -> &[u8] {
         Rule::Dollar(_) => bytes,
         _ => gap(bytes),
     }
+}
+
+/// A rule begins. Where it gives back the values below it, these come behind those before it.
+fn begin(
+    alloc: Global,
+    rule: Rule,
+    values: List<Value>,
+    bytes: &[u8],
+    tasks: &mut Vec<Task>,
+    notes: &Notes,
+) -> Result<List<Value>, Stop>
+    ensures turns { (n : ℕ) (ds : List Bytes) → Turns result (λ x. go_on n ds (todos tasks.new.items) (nodes x) (state bytes.now notes.now)) (go_on n ds (tasks_of.unit (Unit.Rule rule) ∷ todos tasks.old.items) (nodes values) (state bytes.now notes.now)) }
+    ensures ready { IfOk result (λ _. all_ready (todos tasks.old.items) ≡ true → all_ready (todos tasks.new.items) ≡ true) }
+{
+    let items = body(rule, bytes);
+    if leads_on(rule) {
+        tasks.push(Task::Items(items))?;
+        return Ok(values);
+    }
+    let span = span_of(notes, place_of(rule, bytes), bytes);
+    tasks.push(Task::Make(rule, values, span))?;
+    tasks.push(Task::Items(items))?;
+    Ok(List::new(alloc))
 }
 
 /// A step is read, or a rule begins.
@@ -154,11 +190,44 @@ pub fn unit_turn<'a>(
             tasks.push(Task::Here)?;
             Ok((values, bytes))
         }
-        Unit::Rule(rule) => {
-            let span = span_of(notes, place_of(rule, bytes), bytes);
-            tasks.push(Task::Make(rule, values, span))?;
-            tasks.push(Task::Items(body(rule, bytes)))?;
-            Ok((List::new(alloc), bytes))
+        Unit::Rule(rule) => Ok((begin(alloc, rule, values, bytes, tasks, notes)?, bytes)),
+    }
+}
+
+/// What is read of a task at once. A here-document is left where it is.
+pub fn turn<'a>(
+    alloc: Global,
+    task: Task,
+    values: List<Value>,
+    bytes: &'a [u8],
+    tasks: &mut Vec<Task>,
+    notes: &mut Notes,
+) -> Result<(List<Value>, &'a [u8]), Stop>
+    requires { is_ready (todo_of task) ≡ true }
+    ensures turns { (n : ℕ) (ds : List Bytes) → Turns result (λ x. go_on n ds (todos tasks.new.items) (nodes x.0) (state x.1.now notes.new)) (go_on n ds (todo_of task ∷ todos tasks.old.items) (nodes values) (state bytes.now notes.old)) }
+    ensures ready { IfOk result (λ _. all_ready (todos tasks.old.items) ≡ true → all_ready (todos tasks.new.items) ≡ true) }
+{
+    match task {
+        Task::Items(items) => {
+            let unit = items_unit(items, bytes, tasks)?;
+            unit_turn(alloc, unit, values, bytes, tasks, notes)
         }
+        Task::Star(test, unit) => {
+            let unit = star_unit(test, unit, bytes, tasks)?;
+            unit_turn(alloc, unit, values, bytes, tasks, notes)
+        }
+        Task::Here => unit_turn(alloc, Unit::Here, values, bytes, tasks, notes),
+        Task::Make(rule, front, from) => {
+            let span = until(from, span_of(notes, bytes, bytes));
+            Ok((make_turn(alloc, rule, front, values, span)?, bytes))
+        }
+    }
+}
+
+/// From where the one begins to where the other ends.
+fn until(from: Span, to: Span) -> Span {
+    Span {
+        from: from.from,
+        to: to.to,
     }
 }

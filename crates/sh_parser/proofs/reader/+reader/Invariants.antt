@@ -24,7 +24,7 @@ decreases-expanded_of l = 4 * l.levels
 -- what the tasks give is what the rule gives in all
 abbrev pub invariant-rule_of-turns : goal.invariant-rule_of-turns
 invariant-rule_of-turns l =
-    (vals (sh l.levels l.bodies) (rule (tables.rule l.wanted)) (state l.initial.rest l.initial.notes) ≡ go_on l.levels l.bodies (todos l.tasks.items) (nodes l.values) (state l.rest l.notes))
+    (vals (sh l.levels l.bodies) (rule (tables.rule l.fn.wanted)) (state l.fn.bytes l.fn.notes) ≡ go_on l.levels l.bodies (todos l.tasks.items) (nodes l.values) (state l.rest l.notes))
     × (all_ready (todos l.tasks.items) ≡ true)
 
 abbrev pub decreases-rule_of-turns : goal.decreases-rule_of-turns
