@@ -1,4 +1,5 @@
 pub mod Bodies
+pub mod Chains
 pub mod Comings
 pub mod CommandTexts
 pub mod Covers
@@ -12,5 +13,6 @@ pub mod PartViews
 pub mod Puts
 pub mod RedirectTexts
 pub mod Searches
+pub mod SumJoins
 pub mod SumTexts
 pub mod Walks

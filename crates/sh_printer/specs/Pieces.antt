@@ -2,6 +2,8 @@
 use Rattle.std.specs.Prelude.{◌≡◌, ℕ, ◌+◌, ◌*◌, ◌<◌, Bool, true, false, List, [], ◌∷◌, ◌++◌, Option, Some, None, codes, map, take, drop, option_map}
 use Rattle.std.specs.Fmt.{signed_decimal}
 use Rattle.span_text.specs.declared.expr.Expr.{Expr}
+use Rattle.span_text.specs.declared.expr.Expr.TheOpen.{Expr-F}
+use Rattle.span_text.specs.declared.expr.Expr.TheFolds.{map-Expr}
 use Rattle.span_text.specs.Expression.{nodes}
 use Rattle.sh_grammar.specs.Bytes.{Text, in_body, in_word, has_single}
 use Rattle.sh_grammar.specs.Shape as shape
@@ -31,7 +33,8 @@ use Rattle.sh_syntax.specs.declared.tree.Joint.{Joint}
 use Rattle.sh_printing.specs.Marks.{End, blank, gap, exact_text, param_text, param_name, colon_text, test_text, fd_text, is_here, delimiter_text, whole_body}
 use Rattle.sh_printer.specs.Owed.{body_text, owed_text}
 use Rattle.sh_printing.specs.Printing.{owed_behind, parts_open, part_text, parts_text, operand_texts, words_text, value_text, assigns_text, redirects_text, command_text, kind_text, branches_text, for_words_text, items_text, patterns_text, stages_text, pipeline_text, links_text, chain_text, list_text}
-use Rattle.sh_printing.specs.Sums.{levelled_text, operators_text}
+use Rattle.sh_printer.specs.Chains.{halves_text, layer_nodes}
+use Rattle.sh_printing.specs.Sums.{Levelled, expr_step, levelled_text}
 use Rattle.sh_syntax.specs.View.{Aimed, view, view_assign, view_case_item, view_command, view_item, view_param, view_part, view_pipeline, view_redirect, view_test, view_word, parts_of, words_of, assigns_of, redirects_of, branches_of, for_words_of, case_items_of, stages_of, links_of, items_of}
 use Rattle.sh_printer.specs.Weights.{part_weight, parts_weight, words_weight, value_weight, assigns_weight, redirects_weight, command_weight, kind_weight, branches_weight, for_words_weight, items_weight, stages_weight, pipeline_weight, links_weight, script_weight}
 
@@ -176,7 +179,7 @@ abbrev pub sum_operand_text : (operand : ℕ → Text) → SumPiece → Text
 sum_operand_text operand (sums.Expr e wanted) = levelled_text operand e.now wanted
 sum_operand_text operand (sums.Bare e) = levelled_text operand e.now 0
 sum_operand_text operand (sums.Closed e) = 40 ∷ levelled_text operand e.now 0 ++ 41 ∷ []
-sum_operand_text operand (sums.Links e count bits) = operators_text operand e.now count
+sum_operand_text operand (sums.Links e count bits) = halves_text operand bits e.now count
 sum_operand_text operand (sums.Behind mark e wanted) = (32 ∷ mark.now ++ 32 ∷ []) ++ levelled_text operand e.now wanted
 sum_operand_text operand (sums.Indexed e) = levelled_text operand e.now 0 ++ 93 ∷ []
 
@@ -236,3 +239,11 @@ AsPart place p split = Comes (λ full. part_text full (view_context place.contex
 -- the pieces of a command of this kind, of which the last one stands behind it
 abbrev pub AsKind : Ended → Piece → shape.Kind → Split → Type 0
 AsKind end tail k split = Comes (λ full. kind_text full (view_end end) (piece_text full tail) k) (kind_weight k + piece_weight tail) split
+
+-- the weight of an expression of so many nodes
+abbrev pub sums_weight : Operands → (nodes : ℕ) → ℕ
+sums_weight o n = 200 * n + 100 + words_weight (words_of (map view_word o.words.now)) + owed_weight o.owed.now
+
+-- the pieces of an expression that was opened once
+abbrev pub AsLayer : Operands → Expr-F Expr → Split → Type 0
+AsLayer o x split = Comes (λ full. expr_step (operand_of full o) (map-Expr Expr Levelled (levelled_text (operand_of full o)) x) 0) (sums_weight o (layer_nodes x)) split

@@ -80,6 +80,16 @@ pub fn owed_behind<'a>(owed: &'a [Redirect], part: &Part) -> &'a [Redirect]
     &[]
 }
 
+/// The redirections whose bodies are still to come behind words.
+pub fn owed_behind_words<'a>(owed: &'a [Redirect], words: &[Word]) -> &'a [Redirect]
+    ensures { result.now ≡ still_owed (words_open (words_of (map view_word words.now))) owed.now }
+{
+    if owed.is_empty() || !words_open(words) {
+        return owed;
+    }
+    &[]
+}
+
 /// A newline stood in the redirection's word.
 pub fn redirect_opens(redirect: &Redirect) -> bool
     ensures { result ≡ (not (is_here (view_redirect redirect.now).op) && parts_open (view_redirect redirect.now).word) }
