@@ -24,11 +24,11 @@ use Rattle.sh_printing.proofs.BackCommands.{ListEnd}
 abbrev pub due : List Pending → List Text → Due
 due ps found = record { owing = ps; found = found }
 
--- From a state to what ends a command: what is owed then, and all bodies that were named.
-pub record On (k : Known) (g : Gram) (d : ℕ) (q : List Sum) (s : State) (end : End) (t : Text) (xs : List Node) (all : List Text) : Type 0 where
+-- From a state to what stands behind redirections or a command: what is owed then, and all bodies that were named.
+pub record On (k : Known) (g : Gram) (d : ℕ) (q : List Sum) (s : State) (last : Text → Text) (t : Text) (xs : List Node) (all : List Text) : Type 0 where
   pub owing : List Pending
   pub found : List Text
-  pub says : Says k g s (st d q (due owing found) (ended end (pending_text owing) ++ t)) xs
+  pub says : Says k g s (st d q (due owing found) (last (pending_text owing) ++ t)) xs
   pub is_all : found ++ bodies_of owing ≡ all
 
 -- the state that is settled

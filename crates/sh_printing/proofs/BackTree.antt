@@ -1,6 +1,6 @@
 -- What is printed of a node reads as the node: the induction over a script.
 use Rattle.std.proofs.Common.{◌≡◌, ℕ, zero, suc, ◌+◌, ◌≤◌, Bool, true, false, List, [], ◌∷◌, ◌++◌, refl, sym, ap, subst, ◌∙◌, append_assoc, arith}
-use Rattle.std.specs.Prelude.{◌||◌, ◌&&◌, not, nat_lt, codes}
+use Rattle.std.specs.Prelude.{◌||◌, ◌&&◌, not, nat_lt, codes, if◌then◌else◌}
 use Rattle.std.proofs.lemmas.Bool.{true≢false, false≢true}
 use Rattle.std.proofs.lemmas.List.{append-nil}
 use Rattle.text_grammar.specs.Grammar.{star, rule}
@@ -50,7 +50,14 @@ use Rattle.sh_printing.specs.Printing.{stages_text, pipeline_text, links_text, c
 use Rattle.sh_printing.specs.Printable.{stages_fit, pipeline_fits, links_fit, chain_fits, is_reserved_word}
 use Rattle.sh_printing.proofs.BackDue.{Pending, bodies_of}
 use Rattle.sh_printing.proofs.BackBytes.{gap_blank}
-use Rattle.sh_printing.proofs.BackNamed.{command_bodies, kind_bodies, stages_bodies, pipeline_bodies, links_bodies, chain_bodies, command_free, kind_free, stages_free, pipeline_free, links_free, chain_free, begins_reserved}
+use Rattle.sh_printing.proofs.BackNamed.{command_bodies, kind_bodies, stages_bodies, pipeline_bodies, links_bodies, chain_bodies, command_free, kind_free, stages_free, pipeline_free, links_free, chain_free}
+use Rattle.sh_printing.proofs.BackBegins.{ended_outside, ended_open}
+use Rattle.sh_printing.proofs.BackHeads.{last_split, last_redirected}
+use Rattle.sh_printing.proofs.BackCommandSteps.{Lasts, ended_lasts}
+use Rattle.sh_printing.proofs.BackLastWords.{last_outside, words_last, redirects_at, starts_behind, either, last_word_step}
+use Rattle.sh_printing.proofs.BackDue.{covers_second}
+use Rattle.sh_printing.specs.Printing.{last_words_text}
+use Rattle.sh_printing.proofs.BackTreeSteps.{compound_bodies}
 use Rattle.sh_printing.proofs.BackNodes.{stage_nodes, link_nodes, chain_nodes}
 use Rattle.sh_printing.proofs.BackEnds.{marks_pipe, marks_link}
 use Rattle.sh_printing.proofs.BackSimple.{carry_key, word_no_redirect, word_token, redirect_simple}
@@ -241,81 +248,100 @@ mutual
       (assigns_law n ds i d q (f ++ value_bodies v) vs t e ys h D u.2 w.1 (covers_on (known_in n ds) f (value_bodies v) (assigns_bodies vs) cov) o
       (at_state (ap (λ (b : List Text). st d q (clean b) t) (sym (append_assoc f (value_bodies v) (assigns_bodies vs)))) a))
 
-  -- redirections up to what ends the command
-  pub redirects_law : (n : ℕ) (ds : List Text) (i : Bool) (d : ℕ) (q : List Sum) (g : Due) (behind : Bool) (end : End) (rs : shape.Redirects) (t : Text) (p : Test) (r : Rule) → Redirecting p r → suc limit ≤ n + d → d ≤ limit → redirects_fit i d rs ≡ true → redirects_free rs ≡ true → Covers (known_in n ds) g (redirects_bodies rs) → (bytes : Text) → StartsAs rs bytes (redirects_text true behind end (pending_text g.owing) rs ++ t) →
-      On (known_in n ds) (star p (rule r)) d q (st d q g bytes) end t (redirect_nodes rs) (named g ++ redirects_bodies rs)
-  redirects_law n ds i d q g behind end no_redirect t p r R h D e f cov bytes same = on_all (known_in n ds) d q _ end t [] (named g) (named g ++ []) (sym (append-nil (named g))) (star p (rule r)) (on_at (known_in n ds) d q _ _ end t [] (named g) (ap (λ (z : Text). st d q g z) (sym same)) (star p (rule r)) (no_redirects (known_in n ds) d q g end t p r R))
-  redirects_law n ds i d q g behind end (redirect fd shape.read w rs) t p r R h D e f cov bytes same =
+  -- words behind redirections, up to what ends the command
+  pub last_words_law : (n : ℕ) (ds : List Text) (i : Bool) (d : ℕ) (q : List Sum) (g : Due) (end : End) (ws : shape.Words) (t : Text) → limit ≤ n + d → d ≤ limit → words_fit i d ws ≡ true → words_free ws ≡ true → Covers (known_in n ds) g (words_bodies ws) →
+      On (known_in n ds) (star suffix_begins (rule suffix_item)) d q (st d q g (last_words_text true end ws (pending_text g.owing) ++ t)) (ended end) t (word_nodes ws) (named g ++ words_bodies ws)
+  last_words_law n ds i d q g end no_word t h D x y cov =
+      on_all (known_in n ds) d q _ (ended end) t [] (named g) (named g ++ []) (sym (append-nil (named g))) (star suffix_begins (rule suffix_item)) (no_redirects (known_in n ds) d q g (ended end) t suffix_begins suffix_item (ended_lasts suffix_begins suffix_item by_suffix end t))
+  last_words_law n ds i d q g end (word w ws) t h D x y cov =
+      let k = known_in n ds in
+      let u = both (word_fits i d true w) (words_fit i d ws) x in
+      let v = both (parts_free w) (words_free ws) y in
+      let m = after (parts_open w) g (parts_bodies w) in
+      let z = last_words_text true end ws (pending_text m.owing) ++ t in
+      let o = last_outside end ws t (pending_text m.owing) in
+      let front = word_begins i d (opening_of g) w z u.0 o in
+      let nm = named_after (parts_open w) g (parts_bodies w) (parts_closed w) in
+      last_word_step k d q g m w end ws t (named g ++ (parts_bodies w ++ words_bodies ws)) (word_owed (parts_open w) g (parts_bodies w)) front
+      (λ bytes e. word_node_of k d q g bytes w z e front (word_law n ds i d q g true w z h D u.0 v.0 (covers_first k g (parts_bodies w) (words_bodies ws) cov) o))
+      (on_all k d q _ (ended end) t (word_nodes ws) (named m ++ words_bodies ws) (named g ++ (parts_bodies w ++ words_bodies ws)) (ap (λ (b : List Text). b ++ words_bodies ws) nm ∙ append_assoc (named g) (parts_bodies w) (words_bodies ws)) (star suffix_begins (rule suffix_item))
+      (last_words_law n ds i d q m end ws t h D u.1 v.1 (covers_after k (parts_open w) g (parts_bodies w) (words_bodies ws) (parts_closed w) cov)))
+
+  -- redirections up to what stands behind them
+  pub redirects_law : (n : ℕ) (ds : List Text) (i : Bool) (d : ℕ) (q : List Sum) (g : Due) (behind : Bool) (last : Text → Text) (rs : shape.Redirects) (t : Text) (p : Test) (r : Rule) → Redirecting p r → Lasts p last t → suc limit ≤ n + d → d ≤ limit → redirects_fit i d rs ≡ true → redirects_free rs ≡ true → Covers (known_in n ds) g (redirects_bodies rs) → (bytes : Text) → StartsAs rs bytes (redirects_text true behind last (pending_text g.owing) rs ++ t) →
+      On (known_in n ds) (star p (rule r)) d q (st d q g bytes) last t (redirect_nodes rs) (named g ++ redirects_bodies rs)
+  redirects_law n ds i d q g behind last no_redirect t p r R L h D e f cov bytes same = on_all (known_in n ds) d q _ last t [] (named g) (named g ++ []) (sym (append-nil (named g))) (star p (rule r)) (on_at (known_in n ds) d q _ _ last t [] (named g) (ap (λ (z : Text). st d q g z) (sym same)) (star p (rule r)) (no_redirects (known_in n ds) d q g last t p r L))
+  redirects_law n ds i d q g behind last (redirect fd shape.read w rs) t p r R L h D e f cov bytes same =
       let x = three (fd_fits fd) (word_fits i d true w) (redirects_fit i d rs) e in
       let y = both (parts_free w) (redirects_free rs) f in
       let m = after (parts_open w) g (parts_bodies w) in
-      let u = redirects_on end m rs t in
-      let o = redirects_outside end (pending_text m.owing) rs t in
+      let u = redirects_on last m rs t in
+      let o = redirects_outside last (pending_text m.owing) rs t L.outside in
       let v = parts_on in_word (opening_of g) w u in
       let b = word_begins i d (opening_of g) w u x.1 o in
       let first = word_first i d true (opening_of g) w u x.1 in
       let c = covers_first (known_in n ds) g (parts_bodies w) (redirects_bodies rs) cov in
       let nm = named_after (parts_open w) g (parts_bodies w) (parts_closed w) in
-      redirects_step (known_in n ds) d q g m end fd shape.read w rs t (named g ++ (parts_bodies w ++ redirects_bodies rs)) p r R behind bytes same x.0 (word_owed (parts_open w) g (parts_bodies w))
+      redirects_step (known_in n ds) d q g m last fd shape.read w rs t (named g ++ (parts_bodies w ++ redirects_bodies rs)) p r R behind bytes same x.0 (word_owed (parts_open w) g (parts_bodies w))
       (read_says (known_in n ds) d q g m w v u (unit_aimed v first.free first.unit) (word_node_of (known_in n ds) d q g v w u b.solid b (word_law n ds i d q g true w u (omega arith) D x.1 y.0 c o)))
-      (on_all (known_in n ds) d q _ end t (redirect_nodes rs) (named m ++ redirects_bodies rs) (named g ++ (parts_bodies w ++ redirects_bodies rs)) (ap (λ (z : List Text). z ++ redirects_bodies rs) nm ∙ append_assoc (named g) (parts_bodies w) (redirects_bodies rs)) (star p (rule r))
-      (redirects_law n ds i d q m true end rs t p r R h D x.2 y.1 (covers_after (known_in n ds) (parts_open w) g (parts_bodies w) (redirects_bodies rs) (parts_closed w) cov) (redirects_on end m rs t) (starts_same rs (redirects_on end m rs t))))
-  redirects_law n ds i d q g behind end (redirect fd shape.write w rs) t p r R h D e f cov bytes same =
+      (on_all (known_in n ds) d q _ last t (redirect_nodes rs) (named m ++ redirects_bodies rs) (named g ++ (parts_bodies w ++ redirects_bodies rs)) (ap (λ (z : List Text). z ++ redirects_bodies rs) nm ∙ append_assoc (named g) (parts_bodies w) (redirects_bodies rs)) (star p (rule r))
+      (redirects_law n ds i d q m true last rs t p r R L h D x.2 y.1 (covers_after (known_in n ds) (parts_open w) g (parts_bodies w) (redirects_bodies rs) (parts_closed w) cov) (redirects_on last m rs t) (starts_same rs (redirects_on last m rs t))))
+  redirects_law n ds i d q g behind last (redirect fd shape.write w rs) t p r R L h D e f cov bytes same =
       let x = three (fd_fits fd) (word_fits i d true w) (redirects_fit i d rs) e in
       let y = both (parts_free w) (redirects_free rs) f in
       let m = after (parts_open w) g (parts_bodies w) in
-      let u = redirects_on end m rs t in
-      let o = redirects_outside end (pending_text m.owing) rs t in
+      let u = redirects_on last m rs t in
+      let o = redirects_outside last (pending_text m.owing) rs t L.outside in
       let v = parts_on in_word (opening_of g) w u in
       let b = word_begins i d (opening_of g) w u x.1 o in
       let first = word_first i d true (opening_of g) w u x.1 in
       let c = covers_first (known_in n ds) g (parts_bodies w) (redirects_bodies rs) cov in
       let nm = named_after (parts_open w) g (parts_bodies w) (parts_closed w) in
-      redirects_step (known_in n ds) d q g m end fd shape.write w rs t (named g ++ (parts_bodies w ++ redirects_bodies rs)) p r R behind bytes same x.0 (word_owed (parts_open w) g (parts_bodies w))
+      redirects_step (known_in n ds) d q g m last fd shape.write w rs t (named g ++ (parts_bodies w ++ redirects_bodies rs)) p r R behind bytes same x.0 (word_owed (parts_open w) g (parts_bodies w))
       (write_says (known_in n ds) d q g m w v u (unit_aimed v first.free first.unit) (word_node_of (known_in n ds) d q g v w u b.solid b (word_law n ds i d q g true w u (omega arith) D x.1 y.0 c o)))
-      (on_all (known_in n ds) d q _ end t (redirect_nodes rs) (named m ++ redirects_bodies rs) (named g ++ (parts_bodies w ++ redirects_bodies rs)) (ap (λ (z : List Text). z ++ redirects_bodies rs) nm ∙ append_assoc (named g) (parts_bodies w) (redirects_bodies rs)) (star p (rule r))
-      (redirects_law n ds i d q m true end rs t p r R h D x.2 y.1 (covers_after (known_in n ds) (parts_open w) g (parts_bodies w) (redirects_bodies rs) (parts_closed w) cov) (redirects_on end m rs t) (starts_same rs (redirects_on end m rs t))))
-  redirects_law n ds i d q g behind end (redirect fd shape.append w rs) t p r R h D e f cov bytes same =
+      (on_all (known_in n ds) d q _ last t (redirect_nodes rs) (named m ++ redirects_bodies rs) (named g ++ (parts_bodies w ++ redirects_bodies rs)) (ap (λ (z : List Text). z ++ redirects_bodies rs) nm ∙ append_assoc (named g) (parts_bodies w) (redirects_bodies rs)) (star p (rule r))
+      (redirects_law n ds i d q m true last rs t p r R L h D x.2 y.1 (covers_after (known_in n ds) (parts_open w) g (parts_bodies w) (redirects_bodies rs) (parts_closed w) cov) (redirects_on last m rs t) (starts_same rs (redirects_on last m rs t))))
+  redirects_law n ds i d q g behind last (redirect fd shape.append w rs) t p r R L h D e f cov bytes same =
       let x = three (fd_fits fd) (word_fits i d true w) (redirects_fit i d rs) e in
       let y = both (parts_free w) (redirects_free rs) f in
       let m = after (parts_open w) g (parts_bodies w) in
-      let u = redirects_on end m rs t in
-      let o = redirects_outside end (pending_text m.owing) rs t in
+      let u = redirects_on last m rs t in
+      let o = redirects_outside last (pending_text m.owing) rs t L.outside in
       let v = parts_on in_word (opening_of g) w u in
       let b = word_begins i d (opening_of g) w u x.1 o in
       let first = word_first i d true (opening_of g) w u x.1 in
       let c = covers_first (known_in n ds) g (parts_bodies w) (redirects_bodies rs) cov in
       let nm = named_after (parts_open w) g (parts_bodies w) (parts_closed w) in
-      redirects_step (known_in n ds) d q g m end fd shape.append w rs t (named g ++ (parts_bodies w ++ redirects_bodies rs)) p r R behind bytes same x.0 (word_owed (parts_open w) g (parts_bodies w))
+      redirects_step (known_in n ds) d q g m last fd shape.append w rs t (named g ++ (parts_bodies w ++ redirects_bodies rs)) p r R behind bytes same x.0 (word_owed (parts_open w) g (parts_bodies w))
       (append_says (known_in n ds) d q g m w v u (unit_aimed v first.free first.unit) (word_node_of (known_in n ds) d q g v w u b.solid b (word_law n ds i d q g true w u (omega arith) D x.1 y.0 c o)))
-      (on_all (known_in n ds) d q _ end t (redirect_nodes rs) (named m ++ redirects_bodies rs) (named g ++ (parts_bodies w ++ redirects_bodies rs)) (ap (λ (z : List Text). z ++ redirects_bodies rs) nm ∙ append_assoc (named g) (parts_bodies w) (redirects_bodies rs)) (star p (rule r))
-      (redirects_law n ds i d q m true end rs t p r R h D x.2 y.1 (covers_after (known_in n ds) (parts_open w) g (parts_bodies w) (redirects_bodies rs) (parts_closed w) cov) (redirects_on end m rs t) (starts_same rs (redirects_on end m rs t))))
-  redirects_law n ds i d q g behind end (redirect fd shape.copy_in w rs) t p r R h D e f cov bytes same =
+      (on_all (known_in n ds) d q _ last t (redirect_nodes rs) (named m ++ redirects_bodies rs) (named g ++ (parts_bodies w ++ redirects_bodies rs)) (ap (λ (z : List Text). z ++ redirects_bodies rs) nm ∙ append_assoc (named g) (parts_bodies w) (redirects_bodies rs)) (star p (rule r))
+      (redirects_law n ds i d q m true last rs t p r R L h D x.2 y.1 (covers_after (known_in n ds) (parts_open w) g (parts_bodies w) (redirects_bodies rs) (parts_closed w) cov) (redirects_on last m rs t) (starts_same rs (redirects_on last m rs t))))
+  redirects_law n ds i d q g behind last (redirect fd shape.copy_in w rs) t p r R L h D e f cov bytes same =
       let x = three (fd_fits fd) (is_copied_word w) (redirects_fit i d rs) e in
       let y = both (parts_free w) (redirects_free rs) f in
       let c = copied_closed w x.1 in
-      redirects_step (known_in n ds) d q g g end fd shape.copy_in w rs t (named g ++ (parts_bodies w ++ redirects_bodies rs)) p r R behind bytes same x.0 (sym (ap (λ (z : Bool). Rattle.sh_printing.specs.Marks.behind_word z (pending_text g.owing)) c.0))
-      (copied_target (known_in n ds) d q g true w (opening_of g) (redirects_on end g rs t) x.1 (redirects_outside end (pending_text g.owing) rs t))
-      (on_all (known_in n ds) d q _ end t (redirect_nodes rs) (named g ++ redirects_bodies rs) (named g ++ (parts_bodies w ++ redirects_bodies rs)) (ap (λ (z : List Text). named g ++ (z ++ redirects_bodies rs)) (sym c.1)) (star p (rule r))
-      (redirects_law n ds i d q g true end rs t p r R h D x.2 y.1 (copied_covers (known_in n ds) g w (redirects_bodies rs) c.1 cov) (redirects_on end g rs t) (starts_same rs (redirects_on end g rs t))))
-  redirects_law n ds i d q g behind end (redirect fd shape.copy_out w rs) t p r R h D e f cov bytes same =
+      redirects_step (known_in n ds) d q g g last fd shape.copy_in w rs t (named g ++ (parts_bodies w ++ redirects_bodies rs)) p r R behind bytes same x.0 (sym (ap (λ (z : Bool). Rattle.sh_printing.specs.Marks.behind_word z (pending_text g.owing)) c.0))
+      (copied_target (known_in n ds) d q g true w (opening_of g) (redirects_on last g rs t) x.1 (redirects_outside last (pending_text g.owing) rs t L.outside))
+      (on_all (known_in n ds) d q _ last t (redirect_nodes rs) (named g ++ redirects_bodies rs) (named g ++ (parts_bodies w ++ redirects_bodies rs)) (ap (λ (z : List Text). named g ++ (z ++ redirects_bodies rs)) (sym c.1)) (star p (rule r))
+      (redirects_law n ds i d q g true last rs t p r R L h D x.2 y.1 (copied_covers (known_in n ds) g w (redirects_bodies rs) c.1 cov) (redirects_on last g rs t) (starts_same rs (redirects_on last g rs t))))
+  redirects_law n ds i d q g behind last (redirect fd shape.copy_out w rs) t p r R L h D e f cov bytes same =
       let x = three (fd_fits fd) (is_copied_word w) (redirects_fit i d rs) e in
       let y = both (parts_free w) (redirects_free rs) f in
       let c = copied_closed w x.1 in
-      redirects_step (known_in n ds) d q g g end fd shape.copy_out w rs t (named g ++ (parts_bodies w ++ redirects_bodies rs)) p r R behind bytes same x.0 (sym (ap (λ (z : Bool). Rattle.sh_printing.specs.Marks.behind_word z (pending_text g.owing)) c.0))
-      (copied_target (known_in n ds) d q g false w (opening_of g) (redirects_on end g rs t) x.1 (redirects_outside end (pending_text g.owing) rs t))
-      (on_all (known_in n ds) d q _ end t (redirect_nodes rs) (named g ++ redirects_bodies rs) (named g ++ (parts_bodies w ++ redirects_bodies rs)) (ap (λ (z : List Text). named g ++ (z ++ redirects_bodies rs)) (sym c.1)) (star p (rule r))
-      (redirects_law n ds i d q g true end rs t p r R h D x.2 y.1 (copied_covers (known_in n ds) g w (redirects_bodies rs) c.1 cov) (redirects_on end g rs t) (starts_same rs (redirects_on end g rs t))))
-  redirects_law n ds i d q g behind end (redirect fd shape.here_literal w rs) t p r R h D e f cov bytes same =
+      redirects_step (known_in n ds) d q g g last fd shape.copy_out w rs t (named g ++ (parts_bodies w ++ redirects_bodies rs)) p r R behind bytes same x.0 (sym (ap (λ (z : Bool). Rattle.sh_printing.specs.Marks.behind_word z (pending_text g.owing)) c.0))
+      (copied_target (known_in n ds) d q g false w (opening_of g) (redirects_on last g rs t) x.1 (redirects_outside last (pending_text g.owing) rs t L.outside))
+      (on_all (known_in n ds) d q _ last t (redirect_nodes rs) (named g ++ redirects_bodies rs) (named g ++ (parts_bodies w ++ redirects_bodies rs)) (ap (λ (z : List Text). named g ++ (z ++ redirects_bodies rs)) (sym c.1)) (star p (rule r))
+      (redirects_law n ds i d q g true last rs t p r R L h D x.2 y.1 (copied_covers (known_in n ds) g w (redirects_bodies rs) c.1 cov) (redirects_on last g rs t) (starts_same rs (redirects_on last g rs t))))
+  redirects_law n ds i d q g behind last (redirect fd shape.here_literal w rs) t p r R L h D e f cov bytes same =
       let x = three (fd_fits fd) (literal_body i w) (redirects_fit i d rs) e in
       let y = both (not (has_line (delimiter (body_of w)) (body_of w))) (redirects_free rs) f in
       let c = covers_next (known_in n ds) g (body_of w) (redirects_bodies rs) cov in
       let owed = pending_text g.owing ++ marks.whole_body true (body_of w) in
-      let a = literal_target (known_in n ds) d q g i w (redirects_text true true end owed rs ++ t) x.1 (isnt (has_line (delimiter (body_of w)) (body_of w)) y.0) c (redirects_outside end owed rs t) in
-      here_step (known_in n ds) d q g behind end fd shape.here_literal w rs t p r R bytes same x.0 (λ z. refl) refl a
-      (redirects_law n ds i d q (owing_more g a.owes) true end rs t p r R h D x.2 y.1 (here_covers (known_in n ds) g a.owes (body_of w) (redirects_bodies rs) a.body cov) (redirects_on end (owing_more g a.owes) rs t) (starts_same rs (redirects_on end (owing_more g a.owes) rs t)))
-  redirects_law zero ds i d q g behind end (redirect fd shape.here_expanded w rs) t p r R h D e f cov bytes same = absurd (omega arith)
-  redirects_law (suc m) ds i d q g behind end (redirect fd shape.here_expanded w rs) t p r R h D e f cov bytes same =
+      let a = literal_target (known_in n ds) d q g i w (redirects_text true true last owed rs ++ t) x.1 (isnt (has_line (delimiter (body_of w)) (body_of w)) y.0) c (redirects_outside last owed rs t L.outside) in
+      here_step (known_in n ds) d q g behind last fd shape.here_literal w rs t p r R bytes same x.0 (λ z. refl) refl a
+      (redirects_law n ds i d q (owing_more g a.owes) true last rs t p r R L h D x.2 y.1 (here_covers (known_in n ds) g a.owes (body_of w) (redirects_bodies rs) a.body cov) (redirects_on last (owing_more g a.owes) rs t) (starts_same rs (redirects_on last (owing_more g a.owes) rs t)))
+  redirects_law zero ds i d q g behind last (redirect fd shape.here_expanded w rs) t p r R L h D e f cov bytes same = absurd (omega arith)
+  redirects_law (suc m) ds i d q g behind last (redirect fd shape.here_expanded w rs) t p r R L h D e f cov bytes same =
       let x = three (fd_fits fd) (ends_line w && parts_fit true d in_body w) (redirects_fit i d rs) e in
       let z = both (ends_line w) (parts_fit true d in_body w) x.1 in
       let y = both (not (has_line (delimiter (body_of w)) (body_of w)) && parts_free w) (redirects_free rs) f in
@@ -324,67 +350,83 @@ mutual
       let owed = pending_text g.owing ++ marks.whole_body true (body_of w) in
       let kept = body_kept d w z.1 in
       let parts = body_says (known_in m (parts_bodies w)) d w (body_of w) (at_state (ap (λ (b : Text). st d [] (clean []) b) (append-nil (body_of w))) (parts_law m (parts_bodies w) true d [] in_body (clean []) w [] (omega arith) D z.1 v.1 (record { later = []; known = known_bodies m (parts_bodies w) ∙ sym (append-nil (parts_bodies w)) }) body_closes)) in
-      let a = expanded_target (known_in (suc m) ds) d q g w (redirects_text true true end owed rs ++ t) (body_lines w z.0) kept.0 kept.1 (isnt (has_line (delimiter (body_of w)) (body_of w)) v.0) c (expanded_back m d ds w z.0 parts) (redirects_outside end owed rs t) in
-      here_step (known_in (suc m) ds) d q g behind end fd shape.here_expanded w rs t p r R bytes same x.0 (λ z. refl) refl a
-      (redirects_law (suc m) ds i d q (owing_more g a.owes) true end rs t p r R h D x.2 y.1 (here_covers (known_in (suc m) ds) g a.owes (body_of w) (redirects_bodies rs) a.body cov) (redirects_on end (owing_more g a.owes) rs t) (starts_same rs (redirects_on end (owing_more g a.owes) rs t)))
+      let a = expanded_target (known_in (suc m) ds) d q g w (redirects_text true true last owed rs ++ t) (body_lines w z.0) kept.0 kept.1 (isnt (has_line (delimiter (body_of w)) (body_of w)) v.0) c (expanded_back m d ds w z.0 parts) (redirects_outside last owed rs t L.outside) in
+      here_step (known_in (suc m) ds) d q g behind last fd shape.here_expanded w rs t p r R bytes same x.0 (λ z. refl) refl a
+      (redirects_law (suc m) ds i d q (owing_more g a.owes) true last rs t p r R L h D x.2 y.1 (here_covers (known_in (suc m) ds) g a.owes (body_of w) (redirects_bodies rs) a.body cov) (redirects_on last (owing_more g a.owes) rs t) (starts_same rs (redirects_on last (owing_more g a.owes) rs t)))
 
   -- a command and what ends it
   pub command_law : (n : ℕ) (ds : List Text) (i : Bool) (d : ℕ) (q : List Sum) (f : List Text) (end : End) (c : shape.Command) (bytes t : Text) → suc limit ≤ n + d → d ≤ limit → command_fits i d c ≡ true → command_free c ≡ true → Covers (known_in n ds) (clean f) (command_bodies c) → gap bytes ≡ command_text true end c ++ t →
-      On (known_in n ds) (rule table.command) d q (st d q (clean f) bytes) end t (command_node c ∷ []) (f ++ command_bodies c)
+      On (known_in n ds) (rule table.command) d q (st d q (clean f) bytes) (ended end) t (command_node c ∷ []) (f ++ command_bodies c)
   command_law n ds i d q f end (command (simple no_assign no_word) no_redirect) bytes t h D e r cov g = absurd (nothing_fits i d e)
   command_law n ds i d q f end (command (simple no_assign no_word) (redirect fd op w rs)) bytes t h D e r cov g =
       let x = both (kind_fits i d true (simple no_assign no_word)) (redirects_fit i d (redirect fd op w rs)) e in
       let y = both (kind_free (simple no_assign no_word)) (redirects_free (redirect fd op w rs)) r in
       let k = known_in n ds in
-      let v = redirects_text true false end [] (redirect fd op w rs) ++ t in
-      let fr = redirect_at i d end [] fd op w rs t x.1 in
-      let on = redirects_law n ds i d q (clean f) false end (redirect fd op w rs) t prefix_begins prefix_item by_prefix h D x.1 y.1 cov bytes (g ∙ sym fr.solid) in
-      redirect_first k d q f bytes v end t (redirect fd op w rs) (f ++ redirects_bodies (redirect fd op w rs)) g (redirect_simple v fr) (Rattle.sh_printing.proofs.BackRedirects.redirect_begins v bytes fr g)
-      (on_all k d q _ end t (redirect_nodes (redirect fd op w rs)) _ (f ++ redirects_bodies (redirect fd op w rs)) (ap (λ (z : List Text). z ++ redirects_bodies (redirect fd op w rs)) (append-nil f)) _ on)
+      let v = redirects_text true false (ended end) [] (redirect fd op w rs) ++ t in
+      let fr = redirect_at i d (ended end) [] fd op w rs t x.1 in
+      let on = redirects_law n ds i d q (clean f) false (ended end) (redirect fd op w rs) t prefix_begins prefix_item by_prefix (ended_lasts prefix_begins prefix_item by_prefix end t) h D x.1 y.1 cov bytes (g ∙ sym fr.solid) in
+      redirect_first k d q f bytes v _ end t no_word (redirect fd op w rs) (f ++ redirects_bodies (redirect fd op w rs)) g (redirect_simple v fr) (Rattle.sh_printing.proofs.BackRedirects.redirect_begins v bytes fr g) on.says
+      (record { owing = on.owing; found = on.found; is_all = on.is_all ∙ ap (λ (z : List Text). z ++ redirects_bodies (redirect fd op w rs)) (append-nil f); says = suffix_stops k d q on.owing on.found end t })
   command_law n ds i d q f end (command (simple no_assign (word w ws)) rs) bytes t h D e r cov g =
+      let k = known_in n ds in
       let x = both (kind_fits i d (has_redirect rs) (simple no_assign (word w ws))) (redirects_fit i d rs) e in
       let y = both (kind_free (simple no_assign (word w ws))) (redirects_free rs) r in
-      let k = known_in n ds in
       let sf = simple_facts i d no_assign (word w ws) rs x.0 in
       let wf = both (word_fits i d true w) (words_fit i d ws) sf.words in
-      let fr = both (true && words_free (word w ws)) (not (begins_reserved no_assign (word w ws))) y.0 in
-      let wr = both (parts_free w) (words_free ws) (both true (words_free (word w ws)) fr.0).1 in
-      let u = redirects_text true true end [] rs ++ t in
+      let wy = (both true (words_free (word w ws)) y.0).1 in
+      let wr = both (parts_free w) (words_free ws) wy in
+      let nm = isnt (is_assignment w) (both (not (is_assignment w)) (has_redirect rs || not (is_reserved_word w)) sf.name).0 in
+      let wb = parts_bodies w ++ words_bodies ws in let rb = redirects_bodies rs in
+      either (is_reserved_word w)
+      (λ l.
+      let last = last_words_text true end (word w ws) in
+      let v = redirects_text true false last [] rs ++ t in
+      let gv = g ∙ last_split end w ws rs t l in
+      let hr = last_redirected w ws (has_redirect rs) sf.name l in
+      let fr = redirects_at i d last [] rs t hr x.1 in
+      let in_order : command_bodies (command (simple no_assign (word w ws)) rs) ≡ rb ++ wb = ap (λ (b : Bool). if b then rb ++ wb else wb ++ rb) l in
+      let c = subst (λ (b : List Text). Covers k (clean f) b) in_order cov in
+      let on = redirects_law n ds i d q (clean f) false last rs t prefix_begins prefix_item by_prefix (words_last i d end w ws t sf.words nm) h D x.1 y.1 (covers_first k (clean f) rb wb c) bytes (starts_behind rs bytes v hr (gv ∙ sym fr.solid)) in
+      let m = due on.owing on.found in
+      let all : named m ++ wb ≡ f ++ command_bodies (command (simple no_assign (word w ws)) rs) = ap (λ (b : List Text). b ++ wb) (on.is_all ∙ ap (λ (b : List Text). b ++ rb) (append-nil f)) ∙ append_assoc f rb wb ∙ ap (λ (b : List Text). f ++ b) (sym in_order) in
+      redirect_first k d q f bytes v (st d q m (last (pending_text m.owing) ++ t)) end t (word w ws) rs (f ++ command_bodies (command (simple no_assign (word w ws)) rs)) gv (redirect_simple v fr) (Rattle.sh_printing.proofs.BackRedirects.redirect_begins v bytes fr gv) on.says
+      (on_all k d q _ (ended end) t (word_nodes (word w ws)) (named m ++ wb) (f ++ command_bodies (command (simple no_assign (word w ws)) rs)) all (star suffix_begins (rule suffix_item))
+      (last_words_law n ds i d q m end (word w ws) t (omega arith) D sf.words wy (covers_second k (clean f) m rb wb on.is_all c))))
+      (λ l.
+      let u = redirects_text true true (ended end) [] rs ++ t in
       let z = words_text true true ws ++ u in
-      let ou = redirects_outside end [] rs t in
+      let ou = redirects_outside (ended end) [] rs t (ended_outside end t) in
       let oz = words_outside ws u ou in
       let v = parts_on in_word blank w z in
-      let gv = g ∙ word_split end w ws rs t in
+      let gv = g ∙ word_split end w ws rs t l in
       let front = word_begins i d blank w z wf.0 oz in
-      let nm = isnt (is_assignment w) (both (not (is_assignment w)) (has_redirect rs || not (is_reserved_word w)) sf.name).0 in
-      let first = first_front i d blank w z wf.0 oz (words_no_open i d ws u wf.1 ou (redirects_no_open i d end [] rs t x.1)) in
-      let c1 = covers_first k (clean f) (parts_bodies w ++ words_bodies ws) (redirects_bodies rs) cov in
-      let c2 = covers_on k f (parts_bodies w ++ words_bodies ws) (redirects_bodies rs) cov in
-      let on = redirects_law n ds i d q (clean (f ++ (parts_bodies w ++ words_bodies ws))) true end rs t suffix_begins suffix_item by_suffix h D x.1 y.1 c2 u (starts_same rs u) in
+      let no = words_no_open i d ws u wf.1 ou (redirects_no_open i d (ended end) [] rs t (ended_open end t) x.1) in
+      let in_order : command_bodies (command (simple no_assign (word w ws)) rs) ≡ wb ++ rb = ap (λ (b : Bool). if b then rb ++ wb else wb ++ rb) l in
+      let c = subst (λ (b : List Text). Covers k (clean f) b) in_order cov in
+      let c1 = covers_first k (clean f) wb rb c in
+      let on = redirects_law n ds i d q (clean (f ++ wb)) true (ended end) rs t suffix_begins suffix_item by_suffix (ended_lasts suffix_begins suffix_item by_suffix end t) h D x.1 y.1 (covers_on k f wb rb c) u (starts_same rs u) in
       let ws_on = words_law n ds i d q (f ++ parts_bodies w) ws u _ (redirect_nodes rs) suffix_begins suffix_item suffix_words (omega arith) D wf.1 wr.1 (covers_on k f (parts_bodies w) (words_bodies ws) c1) ou
       (at_state (ap (λ (b : List Text). st d q (clean b) u) (sym (append_assoc f (parts_bodies w) (words_bodies ws)))) on.says) in
-      let all : named (clean (f ++ (parts_bodies w ++ words_bodies ws))) ++ redirects_bodies rs ≡ f ++ ((parts_bodies w ++ words_bodies ws) ++ redirects_bodies rs) = ap (λ (b : List Text). b ++ redirects_bodies rs) (append-nil (f ++ (parts_bodies w ++ words_bodies ws))) ∙ append_assoc f (parts_bodies w ++ words_bodies ws) (redirects_bodies rs) in
-      name_first k d q f bytes v (st d q (clean (f ++ parts_bodies w)) z) end t w ws rs (f ++ ((parts_bodies w ++ words_bodies ws) ++ redirects_bodies rs)) gv
-      (first_simple i d blank w z wf.0 (isnt (begins_reserved no_assign (word w ws)) fr.1) oz (words_no_open i d ws u wf.1 ou (redirects_no_open i d end [] rs t x.1)))
-      (word_no_redirect v v (word_token v v front.solid front)) (first.no_assign nm)
+      let all : named (clean (f ++ wb)) ++ rb ≡ f ++ command_bodies (command (simple no_assign (word w ws)) rs) = ap (λ (b : List Text). b ++ rb) (append-nil (f ++ wb)) ∙ append_assoc f wb rb ∙ ap (λ (b : List Text). f ++ b) (sym in_order) in
+      name_first k d q f bytes v (st d q (clean (f ++ parts_bodies w)) z) end t w ws rs (f ++ command_bodies (command (simple no_assign (word w ws)) rs)) gv (first_simple i d blank w z wf.0 l oz no) (word_no_redirect v v (word_token v v front.solid front)) ((first_front i d blank w z wf.0 oz no).no_assign nm)
       (to_state (ap (λ (b : Due). st d q b z) (after_clean (parts_open w) f (parts_bodies w) (parts_closed w))) (word_node_of k d q (clean f) bytes w z gv front (word_law n ds i d q (clean f) true w z (omega arith) D wf.0 wr.0 (covers_first k (clean f) (parts_bodies w) (words_bodies ws) c1) oz)))
-      (record { owing = on.owing; found = on.found; is_all = on.is_all ∙ all; says = ws_on })
+      (record { owing = on.owing; found = on.found; is_all = on.is_all ∙ all; says = ws_on }))
   command_law n ds i d q f end (command (simple (assign name v vs) no_word) rs) bytes t h D e r cov g =
       let k = known_in n ds in
       let x = both (kind_fits i d (has_redirect rs) (simple (assign name v vs) no_word)) (redirects_fit i d rs) e in
       let y = both (kind_free (simple (assign name v vs) no_word)) (redirects_free rs) r in
       let sf = simple_facts i d (assign name v vs) no_word rs x.0 in
       let sa = three (is_name name) (value_fits i d v) (assigns_fit i d vs) sf.assigns in
-      let fr = three (assigns_free (assign name v vs)) true true y.0 in
+      let fr = both (assigns_free (assign name v vs)) true y.0 in
       let af = both (value_free v) (assigns_free vs) fr.0 in
-      let u = redirects_text true true end [] rs ++ t in
+      let u = redirects_text true true (ended end) [] rs ++ t in
       let a = assigns_text true true vs ++ u in
-      let ou = redirects_outside end [] rs t in
+      let ou = redirects_outside (ended end) [] rs t (ended_outside end t) in
       let vb = value_bodies v in let ab = assigns_bodies vs in let rb = redirects_bodies rs in
       let c0 = covers_first k (clean f) (vb ++ ab) [] (covers_first k (clean f) ((vb ++ ab) ++ []) rb cov) in
       let fe : f ++ ((vb ++ ab) ++ []) ≡ (f ++ vb) ++ ab = ap (λ (z : List Text). f ++ z) (append-nil (vb ++ ab)) ∙ sym (append_assoc f vb ab) in
       let cr : Covers k (clean ((f ++ vb) ++ ab)) rb = subst (λ (z : List Text). Covers k (clean z) rb) fe (covers_on k f ((vb ++ ab) ++ []) rb cov) in
-      let on = redirects_law n ds i d q (clean ((f ++ vb) ++ ab)) true end rs t prefix_begins prefix_item by_prefix h D x.1 y.1 cr u (starts_same rs u) in
+      let on = redirects_law n ds i d q (clean ((f ++ vb) ++ ab)) true (ended end) rs t prefix_begins prefix_item by_prefix (ended_lasts prefix_begins prefix_item by_prefix end t) h D x.1 y.1 cr u (starts_same rs u) in
       let all : (((f ++ vb) ++ ab) ++ []) ++ rb ≡ f ++ (((vb ++ ab) ++ []) ++ rb) = ap (λ (z : List Text). z ++ rb) (append-nil ((f ++ vb) ++ ab) ∙ sym fe) ∙ append_assoc f ((vb ++ ab) ++ []) rb in
       assign_first k d q f bytes name (value_text true v ++ a) (st d q (clean (f ++ vb)) a) _ end t v vs no_word rs (f ++ (((vb ++ ab) ++ []) ++ rb)) (assign_nodes vs ++ redirect_nodes rs) [] sa.0 (g ∙ assign_split end name v vs no_word rs t) (append-nil (assign_nodes vs ++ redirect_nodes rs))
       (assign_law n ds i d q f name v bytes a (omega arith) D sa.0 sa.1 af.0 (covers_first k (clean f) vb ab c0) (assigns_outside vs u ou) (g ∙ assign_split end name v vs no_word rs t))
@@ -397,10 +439,10 @@ mutual
       let sf = simple_facts i d (assign name v vs) (word w ws) rs x.0 in
       let sa = three (is_name name) (value_fits i d v) (assigns_fit i d vs) sf.assigns in
       let wf = both (word_fits i d true w) (words_fit i d ws) sf.words in
-      let fr = three (assigns_free (assign name v vs)) (words_free (word w ws)) true y.0 in
+      let fr = both (assigns_free (assign name v vs)) (words_free (word w ws)) y.0 in
       let af = both (value_free v) (assigns_free vs) fr.0 in
-      let u = redirects_text true true end [] rs ++ t in
-      let ou = redirects_outside end [] rs t in
+      let u = redirects_text true true (ended end) [] rs ++ t in
+      let ou = redirects_outside (ended end) [] rs t (ended_outside end t) in
       let wt = words_text true true (word w ws) ++ u in
       let ow = words_outside (word w ws) u ou in
       let a = assigns_text true true vs ++ wt in
@@ -413,11 +455,11 @@ mutual
       let fw : f ++ ((vb ++ ab) ++ wb) ≡ ((f ++ vb) ++ ab) ++ wb = sym (append_assoc f (vb ++ ab) wb) ∙ ap (λ (b : List Text). b ++ wb) fe in
       let cw : Covers k (clean ((f ++ vb) ++ ab)) wb = subst (λ (b : List Text). Covers k (clean b) wb) fe (covers_on k f (vb ++ ab) wb c1) in
       let cr : Covers k (clean (((f ++ vb) ++ ab) ++ wb)) rb = subst (λ (b : List Text). Covers k (clean b) rb) fw (covers_on k f ((vb ++ ab) ++ wb) rb cov) in
-      let on = redirects_law n ds i d q (clean (((f ++ vb) ++ ab) ++ wb)) true end rs t suffix_begins suffix_item by_suffix h D x.1 y.1 cr u (starts_same rs u) in
+      let on = redirects_law n ds i d q (clean (((f ++ vb) ++ ab) ++ wb)) true (ended end) rs t suffix_begins suffix_item by_suffix (ended_lasts suffix_begins suffix_item by_suffix end t) h D x.1 y.1 cr u (starts_same rs u) in
       let all : ((((f ++ vb) ++ ab) ++ wb) ++ []) ++ rb ≡ f ++ (((vb ++ ab) ++ wb) ++ rb) = ap (λ (b : List Text). b ++ rb) (append-nil (((f ++ vb) ++ ab) ++ wb) ∙ sym fw) ∙ append_assoc f ((vb ++ ab) ++ wb) rb in
       let nm = isnt (is_assignment w) (both (not (is_assignment w)) (true || not (is_reserved_word w)) sf.name).0 in
       let front = word_begins i d blank w z wf.0 oz in
-      let first = first_front i d blank w z wf.0 oz (words_no_open i d ws u wf.1 ou (redirects_no_open i d end [] rs t x.1)) in
+      let first = first_front i d blank w z wf.0 oz (words_no_open i d ws u wf.1 ou (redirects_no_open i d (ended end) [] rs t (ended_open end t) x.1)) in
       let stop = prefix_stops k d q ((f ++ vb) ++ ab) (parts_on in_word blank w z) front (first.no_assign nm) in
       let wt_is : 32 ∷ parts_on in_word blank w z ≡ wt = sym (append_assoc (32 ∷ parts_text true in_word blank w) (words_text true true ws) u) in
       assign_first k d q f bytes name (value_text true v ++ a) (st d q (clean (f ++ vb)) a) (st d q (clean ((f ++ vb) ++ ab)) wt) end t v vs (word w ws) rs (f ++ (((vb ++ ab) ++ wb) ++ rb)) (assign_nodes vs ++ []) (word_nodes (word w ws) ++ redirect_nodes rs) sa.0 (g ∙ assign_split end name v vs (word w ws) rs t) (ap (λ (b : List Node). b ++ (word_nodes (word w ws) ++ redirect_nodes rs)) (append-nil (assign_nodes vs)))
@@ -434,67 +476,67 @@ mutual
       let yb = both (kind_free ck) (redirects_free crs) y in
       let v = command_text true end (command ck crs) ++ t in
       let front = command_begins i d end (command ck crs) t x.body y in
-      let c1 = covers_first k (clean f) (kind_bodies ck ++ redirects_bodies crs) [] cov in
+      let c1 = subst (λ (b : List Text). Covers k (clean f) b) (sym (compound_bodies ck crs x.is_compound)) (covers_first k (clean f) (command_bodies (command ck crs)) [] cov) in
       let at = g ∙ function_split name (command_text true end (command ck crs)) t in
       let w = name ++ 40 ∷ 41 ∷ 32 ∷ v in
-      let u = redirects_text true true end [] crs ++ t in
-      let on = compound_part k d q f end i ck crs (32 ∷ v) t x.is_compound xb.0 (gap_blank v ∙ front.solid) (redirects_outside end [] crs t)
+      let u = redirects_text true true (ended end) [] crs ++ t in
+      let on = compound_part k d q f end i ck crs (32 ∷ v) t x.is_compound xb.0 (gap_blank v ∙ front.solid) (redirects_outside (ended end) [] crs t (ended_outside end t))
       (λ out is_text. compound_law n ds i d q f end (has_redirect crs) ck (32 ∷ v) u h D xb.0 yb.0 x.is_compound (covers_first k (clean f) (kind_bodies ck) (redirects_bodies crs) c1) out is_text)
-      (redirects_law n ds i d q (clean (f ++ kind_bodies ck)) true end crs t table.redirect_begins table.redirect by_redirect h D xb.1 yb.1 (covers_on k f (kind_bodies ck) (redirects_bodies crs) c1) u (starts_same crs u)) in
+      (redirects_law n ds i d q (clean (f ++ kind_bodies ck)) true (ended end) crs t table.redirect_begins table.redirect by_redirect (ended_lasts table.redirect_begins table.redirect by_redirect end t) h D xb.1 yb.1 (covers_on k f (kind_bodies ck) (redirects_bodies crs) c1) u (starts_same crs u)) in
       record {
         owing = on.owing;
         found = on.found;
-        is_all = on.is_all ∙ ap (λ (z : List Text). f ++ z) (sym (append-nil (kind_bodies ck ++ redirects_bodies crs)));
+        is_all = on.is_all ∙ ap (λ (z : List Text). f ++ z) (sym (append-nil (command_bodies (command ck crs))));
         says = function_says k d q (clean f) bytes name v _ (command ck crs) x.name at (carry_keys bytes w (at ∙ sym (name_word name (40 ∷ 41 ∷ 32 ∷ v) x.name).solid) (function_keys name (41 ∷ 32 ∷ v) x.name x.free)) front.no_line on.says;
       }
   command_law n ds i d q f end (command (group s) rs) bytes t h D e r cov g =
       let x = both (kind_fits i d (has_redirect rs) (group s)) (redirects_fit i d rs) e in
       let y = both (kind_free (group s)) (redirects_free rs) r in
       let k = known_in n ds in
-      let u = redirects_text true true end [] rs ++ t in
-      compound_case k d q f end i (group s) rs bytes t refl x.0 g (redirects_outside end [] rs t)
+      let u = redirects_text true true (ended end) [] rs ++ t in
+      compound_case k d q f end i (group s) rs bytes t refl x.0 g (redirects_outside (ended end) [] rs t (ended_outside end t))
       (λ out is_text. compound_law n ds i d q f end (has_redirect rs) (group s) bytes u h D x.0 y.0 refl (covers_first k (clean f) (kind_bodies (group s)) (redirects_bodies rs) cov) out is_text)
-      (redirects_law n ds i d q (clean (f ++ kind_bodies (group s))) true end rs t table.redirect_begins table.redirect by_redirect h D x.1 y.1 (covers_on k f (kind_bodies (group s)) (redirects_bodies rs) cov) u (starts_same rs u))
+      (redirects_law n ds i d q (clean (f ++ kind_bodies (group s))) true (ended end) rs t table.redirect_begins table.redirect by_redirect (ended_lasts table.redirect_begins table.redirect by_redirect end t) h D x.1 y.1 (covers_on k f (kind_bodies (group s)) (redirects_bodies rs) cov) u (starts_same rs u))
   command_law n ds i d q f end (command (subshell s) rs) bytes t h D e r cov g =
       let x = both (kind_fits i d (has_redirect rs) (subshell s)) (redirects_fit i d rs) e in
       let y = both (kind_free (subshell s)) (redirects_free rs) r in
       let k = known_in n ds in
-      let u = redirects_text true true end [] rs ++ t in
-      compound_case k d q f end i (subshell s) rs bytes t refl x.0 g (redirects_outside end [] rs t)
+      let u = redirects_text true true (ended end) [] rs ++ t in
+      compound_case k d q f end i (subshell s) rs bytes t refl x.0 g (redirects_outside (ended end) [] rs t (ended_outside end t))
       (λ out is_text. compound_law n ds i d q f end (has_redirect rs) (subshell s) bytes u h D x.0 y.0 refl (covers_first k (clean f) (kind_bodies (subshell s)) (redirects_bodies rs) cov) out is_text)
-      (redirects_law n ds i d q (clean (f ++ kind_bodies (subshell s))) true end rs t table.redirect_begins table.redirect by_redirect h D x.1 y.1 (covers_on k f (kind_bodies (subshell s)) (redirects_bodies rs) cov) u (starts_same rs u))
+      (redirects_law n ds i d q (clean (f ++ kind_bodies (subshell s))) true (ended end) rs t table.redirect_begins table.redirect by_redirect (ended_lasts table.redirect_begins table.redirect by_redirect end t) h D x.1 y.1 (covers_on k f (kind_bodies (subshell s)) (redirects_bodies rs) cov) u (starts_same rs u))
   command_law n ds i d q f end (command (branching bs o) rs) bytes t h D e r cov g =
       let x = both (kind_fits i d (has_redirect rs) (branching bs o)) (redirects_fit i d rs) e in
       let y = both (kind_free (branching bs o)) (redirects_free rs) r in
       let k = known_in n ds in
-      let u = redirects_text true true end [] rs ++ t in
-      compound_case k d q f end i (branching bs o) rs bytes t refl x.0 g (redirects_outside end [] rs t)
+      let u = redirects_text true true (ended end) [] rs ++ t in
+      compound_case k d q f end i (branching bs o) rs bytes t refl x.0 g (redirects_outside (ended end) [] rs t (ended_outside end t))
       (λ out is_text. compound_law n ds i d q f end (has_redirect rs) (branching bs o) bytes u h D x.0 y.0 refl (covers_first k (clean f) (kind_bodies (branching bs o)) (redirects_bodies rs) cov) out is_text)
-      (redirects_law n ds i d q (clean (f ++ kind_bodies (branching bs o))) true end rs t table.redirect_begins table.redirect by_redirect h D x.1 y.1 (covers_on k f (kind_bodies (branching bs o)) (redirects_bodies rs) cov) u (starts_same rs u))
+      (redirects_law n ds i d q (clean (f ++ kind_bodies (branching bs o))) true (ended end) rs t table.redirect_begins table.redirect by_redirect (ended_lasts table.redirect_begins table.redirect by_redirect end t) h D x.1 y.1 (covers_on k f (kind_bodies (branching bs o)) (redirects_bodies rs) cov) u (starts_same rs u))
   command_law n ds i d q f end (command (loop until a b) rs) bytes t h D e r cov g =
       let x = both (kind_fits i d (has_redirect rs) (loop until a b)) (redirects_fit i d rs) e in
       let y = both (kind_free (loop until a b)) (redirects_free rs) r in
       let k = known_in n ds in
-      let u = redirects_text true true end [] rs ++ t in
-      compound_case k d q f end i (loop until a b) rs bytes t refl x.0 g (redirects_outside end [] rs t)
+      let u = redirects_text true true (ended end) [] rs ++ t in
+      compound_case k d q f end i (loop until a b) rs bytes t refl x.0 g (redirects_outside (ended end) [] rs t (ended_outside end t))
       (λ out is_text. compound_law n ds i d q f end (has_redirect rs) (loop until a b) bytes u h D x.0 y.0 refl (covers_first k (clean f) (kind_bodies (loop until a b)) (redirects_bodies rs) cov) out is_text)
-      (redirects_law n ds i d q (clean (f ++ kind_bodies (loop until a b))) true end rs t table.redirect_begins table.redirect by_redirect h D x.1 y.1 (covers_on k f (kind_bodies (loop until a b)) (redirects_bodies rs) cov) u (starts_same rs u))
+      (redirects_law n ds i d q (clean (f ++ kind_bodies (loop until a b))) true (ended end) rs t table.redirect_begins table.redirect by_redirect (ended_lasts table.redirect_begins table.redirect by_redirect end t) h D x.1 y.1 (covers_on k f (kind_bodies (loop until a b)) (redirects_bodies rs) cov) u (starts_same rs u))
   command_law n ds i d q f end (command (walk name ws b) rs) bytes t h D e r cov g =
       let x = both (kind_fits i d (has_redirect rs) (walk name ws b)) (redirects_fit i d rs) e in
       let y = both (kind_free (walk name ws b)) (redirects_free rs) r in
       let k = known_in n ds in
-      let u = redirects_text true true end [] rs ++ t in
-      compound_case k d q f end i (walk name ws b) rs bytes t refl x.0 g (redirects_outside end [] rs t)
+      let u = redirects_text true true (ended end) [] rs ++ t in
+      compound_case k d q f end i (walk name ws b) rs bytes t refl x.0 g (redirects_outside (ended end) [] rs t (ended_outside end t))
       (λ out is_text. compound_law n ds i d q f end (has_redirect rs) (walk name ws b) bytes u h D x.0 y.0 refl (covers_first k (clean f) (kind_bodies (walk name ws b)) (redirects_bodies rs) cov) out is_text)
-      (redirects_law n ds i d q (clean (f ++ kind_bodies (walk name ws b))) true end rs t table.redirect_begins table.redirect by_redirect h D x.1 y.1 (covers_on k f (kind_bodies (walk name ws b)) (redirects_bodies rs) cov) u (starts_same rs u))
+      (redirects_law n ds i d q (clean (f ++ kind_bodies (walk name ws b))) true (ended end) rs t table.redirect_begins table.redirect by_redirect (ended_lasts table.redirect_begins table.redirect by_redirect end t) h D x.1 y.1 (covers_on k f (kind_bodies (walk name ws b)) (redirects_bodies rs) cov) u (starts_same rs u))
   command_law n ds i d q f end (command (cases w is) rs) bytes t h D e r cov g =
       let x = both (kind_fits i d (has_redirect rs) (cases w is)) (redirects_fit i d rs) e in
       let y = both (kind_free (cases w is)) (redirects_free rs) r in
       let k = known_in n ds in
-      let u = redirects_text true true end [] rs ++ t in
-      compound_case k d q f end i (cases w is) rs bytes t refl x.0 g (redirects_outside end [] rs t)
+      let u = redirects_text true true (ended end) [] rs ++ t in
+      compound_case k d q f end i (cases w is) rs bytes t refl x.0 g (redirects_outside (ended end) [] rs t (ended_outside end t))
       (λ out is_text. compound_law n ds i d q f end (has_redirect rs) (cases w is) bytes u h D x.0 y.0 refl (covers_first k (clean f) (kind_bodies (cases w is)) (redirects_bodies rs) cov) out is_text)
-      (redirects_law n ds i d q (clean (f ++ kind_bodies (cases w is))) true end rs t table.redirect_begins table.redirect by_redirect h D x.1 y.1 (covers_on k f (kind_bodies (cases w is)) (redirects_bodies rs) cov) u (starts_same rs u))
+      (redirects_law n ds i d q (clean (f ++ kind_bodies (cases w is))) true (ended end) rs t table.redirect_begins table.redirect by_redirect (ended_lasts table.redirect_begins table.redirect by_redirect end t) h D x.1 y.1 (covers_on k f (kind_bodies (cases w is)) (redirects_bodies rs) cov) u (starts_same rs u))
 
   -- a compound command before its redirections
   pub compound_law : (n : ℕ) (ds : List Text) (i : Bool) (d : ℕ) (q : List Sum) (f : List Text) (end : End) (redirected : Bool) (c : shape.Kind) (bytes u : Text) → suc limit ≤ n + d → d ≤ limit → kind_fits i d redirected c ≡ true → kind_free c ≡ true → is_compound c ≡ true → Covers (known_in n ds) (clean f) (kind_bodies c) → Outside u → gap bytes ≡ kind_text true end u c →
@@ -693,7 +735,7 @@ mutual
 
   -- the commands of a pipeline behind the first one
   pub stages_law : (n : ℕ) (ds : List Text) (i : Bool) (d : ℕ) (q : List Sum) (f : List Text) (end : End) (ss : shape.Stages) (ps : List Pending) (found : List Text) (t : Text) → suc limit ≤ n + d → d ≤ limit → stages_fit i d ss ≡ true → stages_free ss ≡ true → Covers (known_in n ds) (clean f) (stages_bodies ss) → marks_pipe end ≡ false → found ++ bodies_of ps ≡ f →
-      On (known_in n ds) (star (table.next Pipe) (rule table.stage)) d q (st d q (due ps found) (ended (stage_end end ss) (pending_text ps) ++ (stages_text true end ss ++ t))) end t (stage_nodes ss) (f ++ stages_bodies ss)
+      On (known_in n ds) (star (table.next Pipe) (rule table.stage)) d q (st d q (due ps found) (ended (stage_end end ss) (pending_text ps) ++ (stages_text true end ss ++ t))) (ended end) t (stage_nodes ss) (f ++ stages_bodies ss)
   stages_law n ds i d q f end no_stage ps found t h D e r cov m is = record { owing = ps; found = found; says = no_stages (known_in n ds) d q ps found end t m; is_all = is ∙ sym (append-nil f) }
   stages_law n ds i d q f end (stage c cs) ps found t h D e r cov m is =
       let k = known_in n ds in
@@ -707,7 +749,7 @@ mutual
       record { owing = b.owing; found = b.found; says = one_stage k d q ps found f u _ _ c (stage_nodes cs) l a.says b.says; is_all = b.is_all ∙ append_assoc f (command_bodies c) (stages_bodies cs) }
 
   pub pipeline_law : (n : ℕ) (ds : List Text) (i : Bool) (d : ℕ) (q : List Sum) (f : List Text) (end : End) (p : shape.Pipeline) (bytes t : Text) → suc limit ≤ n + d → d ≤ limit → pipeline_fits i d p ≡ true → pipeline_free p ≡ true → Covers (known_in n ds) (clean f) (pipeline_bodies p) → marks_pipe end ≡ false → gap bytes ≡ pipeline_text true end p ++ t →
-      On (known_in n ds) (rule table.pipeline) d q (st d q (clean f) bytes) end t (pipeline_node p ∷ []) (f ++ pipeline_bodies p)
+      On (known_in n ds) (rule table.pipeline) d q (st d q (clean f) bytes) (ended end) t (pipeline_node p ∷ []) (f ++ pipeline_bodies p)
   pipeline_law n ds i d q f end (pipeline negated no_stage) bytes t h D e r cov m g = absurd (false≢true e)
   pipeline_law n ds i d q f end (pipeline false (stage c cs)) bytes t h D e r cov m g =
       let k = known_in n ds in
@@ -728,7 +770,7 @@ mutual
       record { owing = b.owing; found = b.found; is_all = b.is_all ∙ append_assoc f (command_bodies c) (stages_bodies cs); says = bang_pipeline_says k d q (clean f) bytes u _ _ c cs g a.says b.says }
 
   pub links_law : (n : ℕ) (ds : List Text) (i : Bool) (d : ℕ) (q : List Sum) (f : List Text) (end : End) (ls : shape.Links) (ps : List Pending) (found : List Text) (t : Text) → suc limit ≤ n + d → d ≤ limit → links_fit i d ls ≡ true → links_free ls ≡ true → Covers (known_in n ds) (clean f) (links_bodies ls) → marks_pipe end ≡ false → marks_link end ≡ false → found ++ bodies_of ps ≡ f →
-      On (known_in n ds) (star table.links (rule table.link)) d q (st d q (due ps found) (ended (link_end end ls) (pending_text ps) ++ (links_text true end ls ++ t))) end t (link_nodes ls) (f ++ links_bodies ls)
+      On (known_in n ds) (star table.links (rule table.link)) d q (st d q (due ps found) (ended (link_end end ls) (pending_text ps) ++ (links_text true end ls ++ t))) (ended end) t (link_nodes ls) (f ++ links_bodies ls)
   links_law n ds i d q f end no_link ps found t h D e r cov m o is = record { owing = ps; found = found; says = no_links (known_in n ds) d q ps found end t o; is_all = is ∙ sym (append-nil f) }
   links_law n ds i d q f end (and_link p ls) ps found t h D e r cov m o is =
       let k = known_in n ds in
@@ -754,7 +796,7 @@ mutual
       record { owing = b.owing; found = b.found; says = one_or k d q ps found f u _ _ p (link_nodes ls) l a.says b.says; is_all = b.is_all ∙ append_assoc f (pipeline_bodies p) (links_bodies ls) }
 
   pub chain_law : (n : ℕ) (ds : List Text) (i : Bool) (d : ℕ) (q : List Sum) (f : List Text) (end : End) (c : shape.Chain) (bytes t : Text) → suc limit ≤ n + d → d ≤ limit → chain_fits i d c ≡ true → chain_free c ≡ true → Covers (known_in n ds) (clean f) (chain_bodies c) → marks_pipe end ≡ false → marks_link end ≡ false → gap bytes ≡ chain_text true end c ++ t →
-      On (known_in n ds) (rule table.chain) d q (st d q (clean f) bytes) end t (chain_node c ∷ []) (f ++ chain_bodies c)
+      On (known_in n ds) (rule table.chain) d q (st d q (clean f) bytes) (ended end) t (chain_node c ∷ []) (f ++ chain_bodies c)
   chain_law n ds i d q f end (chain p ls) bytes t h D e r cov m o g =
       let k = known_in n ds in
       let x = both (pipeline_fits i d p) (links_fit i d ls) e in

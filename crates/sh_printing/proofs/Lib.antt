@@ -1,5 +1,6 @@
 pub mod BackBegins
 pub mod BackBehind
+pub mod BackBounds
 pub mod BackBraces
 pub mod BackBytes
 pub mod BackCommandSteps
@@ -19,6 +20,8 @@ pub mod BackHere
 pub mod BackKept
 pub mod BackKeptTexts
 pub mod BackKeys
+pub mod BackLastWords
+pub mod BackLengths
 pub mod BackLines
 pub mod BackLists
 pub mod BackLoops
@@ -41,3 +44,4 @@ pub mod BackTree
 pub mod BackTreeSteps
 pub mod BackWordFronts
 pub mod BackWords
+pub mod HereExamples
