@@ -15,4 +15,5 @@ pub mod RedirectTexts
 pub mod Searches
 pub mod SumJoins
 pub mod SumTexts
+pub mod ValueViews
 pub mod Walks

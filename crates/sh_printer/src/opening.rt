@@ -80,6 +80,16 @@ pub fn owed_behind<'a>(owed: &'a [Redirect], part: &Part) -> &'a [Redirect]
     &[]
 }
 
+/// The redirections whose bodies are still to come behind a word.
+pub fn owed_behind_word<'a>(owed: &'a [Redirect], word: &Word) -> &'a [Redirect]
+    ensures { result.now ≡ still_owed (parts_open (view_word word.now)) owed.now }
+{
+    if owed.is_empty() || !parts_open(word.parts.as_slice()) {
+        return owed;
+    }
+    &[]
+}
+
 /// The redirections whose bodies are still to come behind words.
 pub fn owed_behind_words<'a>(owed: &'a [Redirect], words: &[Word]) -> &'a [Redirect]
     ensures { result.now ≡ still_owed (words_open (words_of (map view_word words.now))) owed.now }
