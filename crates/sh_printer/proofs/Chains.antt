@@ -15,7 +15,7 @@ use Rattle.span_text.specs.declared.sign.Infix.TheVariants as sign
 use Rattle.span_text.specs.Expression.{Size, nodes, size}
 use Rattle.span_text.specs.Expressions.{level, left_level}
 use Rattle.sh_grammar.specs.Bytes.{Text}
-use Rattle.sh_printer.specs.Chains.{if_bare, first_step, first_of, has_first_by, has_first, next_by, next_down, down, last_step, last_text, operators_text, few_text, halves_text, Chained, layer_nodes}
+use Rattle.sh_printer.specs.Chains.{if_bare, first_step, first_of, has_first_by, has_first, next_by, next_down, down, last_step, last_operator, operators_text, few_text, halves_text, Chained, layer_nodes}
 use Rattle.sh_printer.specs.Levels.{own_level}
 use Rattle.sh_printing.specs.Sums.{binary_text, levelled_text}
 use Rattle.sh_printer.proofs.SumTexts.{text_is, stands_bare}
@@ -25,8 +25,8 @@ use Rattle.sh_printer.proofs.SumTexts.{text_is, stands_bare}
 pub first_is : (e : Expr) (x : Expr-F Expr) → e ≡ roll-Expr x → first_of e ≡ first_step x
 first_is e x is = ap first_of is ∙ ap first_step (out-roll-Expr x)
 
-pub last_is : (operand : ℕ → Text) (e : Expr) (x : Expr-F Expr) → e ≡ roll-Expr x → last_text operand e ≡ last_step operand x
-last_is operand e x is = ap (last_text operand) is ∙ ap (last_step operand) (out-roll-Expr x)
+pub last_is : (operand : ℕ → Text) (e : Expr) (x : Expr-F Expr) → e ≡ roll-Expr x → last_operator operand e ≡ last_step operand x
+last_is operand e x is = ap (last_operator operand) is ∙ ap (last_step operand) (out-roll-Expr x)
 
 rolled_nodes : (x : Expr-F Expr) → nodes (roll-Expr x) ≡ layer_nodes x
 rolled_nodes (layer.Constant n) = ap (λ (s : Size). s.0) (fold-roll-Expr Size _ (layer.Constant n))
@@ -79,33 +79,33 @@ still_chained n e d is has chained = below_more (λ (k : ℕ). has_first (down k
 -- what an expression is, where its first operand stands bare
 pub record Leads (e a : Expr) : Type 0 where
   pub less : nodes a < nodes e
-  pub whole : (operand : ℕ → Text) → levelled_text operand e 0 ≡ levelled_text operand a 0 ++ last_text operand e
+  pub whole : (operand : ℕ → Text) → levelled_text operand e 0 ≡ levelled_text operand a 0 ++ last_operator operand e
 
 abbrev LeadsIf : Expr → Option Expr → Type 0
 LeadsIf e None = Unit {0}
 LeadsIf e (Some a) = Leads e a
 
-bare_by : (wanted : ℕ) (a e : Expr) (bare : Bool) → nat_le wanted (own_level a) ≡ bare → nodes a < nodes e → ((operand : ℕ → Text) → levelled_text operand e 0 ≡ levelled_text operand a wanted ++ last_text operand e) → LeadsIf e (if bare then Some a else None)
+bare_by : (wanted : ℕ) (a e : Expr) (bare : Bool) → nat_le wanted (own_level a) ≡ bare → nodes a < nodes e → ((operand : ℕ → Text) → levelled_text operand e 0 ≡ levelled_text operand a wanted ++ last_operator operand e) → LeadsIf e (if bare then Some a else None)
 bare_by wanted a e false is less whole = tt
-bare_by wanted a e true is less whole = record { less = less; whole = λ operand. whole operand ∙ ap (λ (t : Text). t ++ last_text operand e) (sym (stands_bare operand a wanted is)) }
+bare_by wanted a e true is less whole = record { less = less; whole = λ operand. whole operand ∙ ap (λ (t : Text). t ++ last_operator operand e) (sym (stands_bare operand a wanted is)) }
 
-bare_leads : (wanted : ℕ) (a e : Expr) → nodes a < nodes e → ((operand : ℕ → Text) → levelled_text operand e 0 ≡ levelled_text operand a wanted ++ last_text operand e) → LeadsIf e (if_bare wanted a)
+bare_leads : (wanted : ℕ) (a e : Expr) → nodes a < nodes e → ((operand : ℕ → Text) → levelled_text operand e 0 ≡ levelled_text operand a wanted ++ last_operator operand e) → LeadsIf e (if_bare wanted a)
 bare_leads wanted a e less whole = bare_by wanted a e (nat_le wanted (own_level a)) refl less whole
 
 joined : (a mark b : Text) → a ++ 32 ∷ mark ++ 32 ∷ b ≡ a ++ ((32 ∷ mark ++ 32 ∷ []) ++ b)
 joined a mark b = simp append_assoc
 
 -- an operator between operands, as its first operand and the operator
-pub binary_opens : (operand : ℕ → Text) (op : BinOp) (a b e : Expr) → e ≡ roll-Expr (layer.Binary op a b) → levelled_text operand e 0 ≡ levelled_text operand a (left_level (sign.Plain op)) ++ last_text operand e
+pub binary_opens : (operand : ℕ → Text) (op : BinOp) (a b e : Expr) → e ≡ roll-Expr (layer.Binary op a b) → levelled_text operand e 0 ≡ levelled_text operand a (left_level (sign.Plain op)) ++ last_operator operand e
 binary_opens operand op a b e is = text_is operand e (layer.Binary op a b) 0 is ∙ rw (le-leb 0 (level (sign.Plain op)) (omega arith), last_is operand e (layer.Binary op a b) is) (joined (levelled_text operand a (left_level (sign.Plain op))) (binary_text op) (levelled_text operand b (level (sign.Plain op) + 1)))
 
-pub and_opens : (operand : ℕ → Text) (a b e : Expr) → e ≡ roll-Expr (layer.And a b) → levelled_text operand e 0 ≡ levelled_text operand a 4 ++ last_text operand e
+pub and_opens : (operand : ℕ → Text) (a b e : Expr) → e ≡ roll-Expr (layer.And a b) → levelled_text operand e 0 ≡ levelled_text operand a 4 ++ last_operator operand e
 and_opens operand a b e is = text_is operand e (layer.And a b) 0 is ∙ rw (last_is operand e (layer.And a b) is) (joined (levelled_text operand a 4) (codes "&&") (levelled_text operand b 5))
 
-pub or_opens : (operand : ℕ → Text) (a b e : Expr) → e ≡ roll-Expr (layer.Or a b) → levelled_text operand e 0 ≡ levelled_text operand a 3 ++ last_text operand e
+pub or_opens : (operand : ℕ → Text) (a b e : Expr) → e ≡ roll-Expr (layer.Or a b) → levelled_text operand e 0 ≡ levelled_text operand a 3 ++ last_operator operand e
 or_opens operand a b e is = text_is operand e (layer.Or a b) 0 is ∙ rw (last_is operand e (layer.Or a b) is) (joined (levelled_text operand a 3) (codes "||") (levelled_text operand b 4))
 
-pub comma_opens : (operand : ℕ → Text) (a b e : Expr) → e ≡ roll-Expr (layer.Comma a b) → levelled_text operand e 0 ≡ levelled_text operand a 0 ++ last_text operand e
+pub comma_opens : (operand : ℕ → Text) (a b e : Expr) → e ≡ roll-Expr (layer.Comma a b) → levelled_text operand e 0 ≡ levelled_text operand a 0 ++ last_operator operand e
 comma_opens operand a b e is = text_is operand e (layer.Comma a b) 0 is ∙ rw (last_is operand e (layer.Comma a b) is) (joined (levelled_text operand a 0) (codes ",") (levelled_text operand b 1))
 
 layer_leads : (x : Expr-F Expr) (e : Expr) → e ≡ roll-Expr x → LeadsIf e (first_step x)
@@ -159,16 +159,16 @@ unfolding down operators_text
 chain_text operand zero e chained = sym (append-nil (levelled_text operand e 0))
 chain_text operand (suc n) e chained =
     (leads_down e (chained 0 (omega arith))).whole operand
-    ∙ ap (λ (t : Text). t ++ last_text operand e) (chain_text operand n (next_down e) (behind_first n e chained))
-    ∙ append_assoc (levelled_text operand (down n (next_down e)) 0) (operators_text operand (next_down e) n) (last_text operand e)
+    ∙ ap (λ (t : Text). t ++ last_operator operand e) (chain_text operand n (next_down e) (behind_first n e chained))
+    ∙ append_assoc (levelled_text operand (down n (next_down e)) 0) (operators_text operand (next_down e) n) (last_operator operand e)
 
 operators_split : (operand : ℕ → Text) (h k n : ℕ) (e : Expr) → h + k ≡ n → operators_text operand e n ≡ operators_text operand (down h e) k ++ operators_text operand e h
 unfolding down operators_text
 operators_split operand zero k n e is = let same : n ≡ k = omega arith in ap (operators_text operand e) same ∙ sym (append-nil (operators_text operand e k))
 operators_split operand (suc h) k zero e is = absurd (omega arith)
 operators_split operand (suc h) k (suc n) e is =
-    ap (λ (t : Text). t ++ last_text operand e) (operators_split operand h k n (next_down e) (omega arith))
-    ∙ append_assoc (operators_text operand (down h (next_down e)) k) (operators_text operand (next_down e) h) (last_text operand e)
+    ap (λ (t : Text). t ++ last_operator operand e) (operators_split operand h k n (next_down e) (omega arith))
+    ∙ append_assoc (operators_text operand (down h (next_down e)) k) (operators_text operand (next_down e) h) (last_operator operand e)
 
 few_is : (operand : ℕ → Text) (n : ℕ) (e : Expr) → n ≤ 1 → few_text operand e n ≡ operators_text operand e n
 unfolding operators_text
@@ -187,7 +187,7 @@ unfolding halves_text
 halves_are operand zero n e le = few_is operand n e le
 halves_are operand (suc bits) n e le = halves_by operand bits n e (nat_le n 1) refl (omega (arith, pow-succ' 2 bits)) (λ m d le. halves_are operand bits m d le)
 
-pub halves_one : (operand : ℕ → Text) (bits : ℕ) (e : Expr) → halves_text operand bits e 1 ≡ last_text operand e
+pub halves_one : (operand : ℕ → Text) (bits : ℕ) (e : Expr) → halves_text operand bits e 1 ≡ last_operator operand e
 unfolding halves_text
 halves_one operand zero e = refl
 halves_one operand (suc bits) e = refl
@@ -197,7 +197,7 @@ unfolding halves_text
 halves_none operand zero e = refl
 halves_none operand (suc bits) e = refl
 
-pub halves_last : (operand : ℕ → Text) (n : ℕ) (e : Expr) → 0 < n → halves_text operand 0 e n ≡ last_text operand e
+pub halves_last : (operand : ℕ → Text) (n : ℕ) (e : Expr) → 0 < n → halves_text operand 0 e n ≡ last_operator operand e
 unfolding halves_text
 halves_last operand zero e some = absurd (omega arith)
 halves_last operand (suc n) e some = refl

@@ -6,6 +6,7 @@ pub mod Covers
 pub mod Firsts
 pub mod GatheredBodies
 pub mod Gathers
+pub mod LastWords
 pub mod Lines
 pub mod Numbers
 pub mod Openings

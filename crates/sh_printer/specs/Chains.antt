@@ -72,17 +72,17 @@ last_step operand (open_expr.Assign a op b) = []
 last_step operand (open_expr.Choose a b c) = []
 
 -- the last operator of a chain, and the operand behind it
-abbrev pub last_text : (ℕ → Text) → Expr → Text
-last_text operand e = last_step operand (out-Expr e)
+abbrev pub last_operator : (ℕ → Text) → Expr → Text
+last_operator operand e = last_step operand (out-Expr e)
 
 -- the last operators of a chain, so many of them, each with the operand behind it
 unfoldable pub operators_text : (ℕ → Text) → Expr → ℕ → Text
 operators_text operand e zero = []
-operators_text operand e (suc n) = operators_text operand (next_down e) n ++ last_text operand e
+operators_text operand e (suc n) = operators_text operand (next_down e) n ++ last_operator operand e
 
 abbrev pub few_text : (ℕ → Text) → Expr → ℕ → Text
 few_text operand e zero = []
-few_text operand e (suc n) = last_text operand e
+few_text operand e (suc n) = last_operator operand e
 
 -- the same, put together by halves so many times
 unfoldable pub halves_text : (ℕ → Text) → (bits : ℕ) → Expr → ℕ → Text

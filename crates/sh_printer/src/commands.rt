@@ -1,6 +1,6 @@
 //! Commands and lists, taken apart.
 
-ghost use Rattle.std.specs.Prelude.{◌≡◌, ◌≤◌, ◌<◌, ◌+◌, ◌++◌, [], map, option_map, codes, Bool, if◌then◌else◌};
+ghost use Rattle.std.specs.Prelude.{◌≡◌, ◌≤◌, ◌<◌, ◌+◌, ◌++◌, ◌||◌, ◌&&◌, not, [], map, option_map, codes, Bool, if◌then◌else◌};
 ghost use Rattle.sh_grammar.specs.Shape as shape;
 ghost use Rattle.sh_printer.specs.Codes.{view_end};
 ghost use Rattle.sh_printer.specs.Pieces.{Comes, Apart, AsKind, piece_text, piece_weight, branch_views, link_views, pipeline_mark};
@@ -68,6 +68,19 @@ fn simple_words<'a>(assigns: &'a [Assign], words: &'a [Word]) -> Piece<'a>
     Piece::Node(Node::Word(WordPiece::Words(words, has_assigns(assigns))))
 }
 
+/// Whether a simple command has bytes before its redirections.
+fn has_front(assigns: &[Assign], words: &[Word]) -> bool
+    ensures { result ≡ (has_assign (assigns_of (map view_assign assigns.now)) || (has_word (words_of (map view_word words.now)) && not (words_last (assigns_of (map view_assign assigns.now)) (words_of (map view_word words.now))))) }
+{
+    if has_assigns(assigns) {
+        return true;
+    }
+    if has_words(words) {
+        return !words_last(assigns, words);
+    }
+    false
+}
+
 /// Whether the command has bytes before its redirections.
 fn is_something(kind: &CommandKind) -> bool
     ensures { result ≡ is_something (view_kind kind.now) }
@@ -76,7 +89,7 @@ fn is_something(kind: &CommandKind) -> bool
         CommandKind::Simple { assigns, words } => {
             let assigns = assigns.as_slice();
             let words = words.as_slice();
-            has_assigns(assigns) || (has_words(words) && !words_last(assigns, words))
+            has_front(assigns, words)
         }
         CommandKind::Group(_) => true,
         CommandKind::Subshell(_) => true,

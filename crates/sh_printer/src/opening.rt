@@ -84,10 +84,15 @@ pub fn owed_behind<'a>(owed: &'a [Redirect], part: &Part) -> &'a [Redirect]
 pub fn owed_behind_word<'a>(owed: &'a [Redirect], word: &Word) -> &'a [Redirect]
     ensures { result.now ≡ still_owed (parts_open (view_word word.now)) owed.now }
 {
-    if owed.is_empty() || !parts_open(word.parts.as_slice()) {
-        return owed;
-    }
-    &[]
+    let parts = word.parts.as_slice();
+    let opens = parts_open(parts);
+    still_owed(opens, owed)
+}
+
+fn still_owed(opens: bool, owed: &[Redirect]) -> &[Redirect]
+    ensures { result.now ≡ still_owed opens owed.now }
+{
+    if opens { &[] } else { owed }
 }
 
 /// The redirections whose bodies are still to come behind words.

@@ -3,7 +3,7 @@
 ghost use Rattle.std.specs.Prelude.{◌≡◌, ◌+◌, ◌-◌, ◌≤◌, ◌<◌, ◌*◌, ◌^◌, ◌∷◌, ◌++◌, [], map, option_copied, false, Bool};
 ghost use Rattle.span_text.specs.Expression.{nodes};
 ghost use Rattle.span_text.specs.declared.expr.Expr.TheOpen as layer;
-ghost use Rattle.sh_printer.specs.Chains.{Chained, down, first_of, has_first, if_bare, last_text, next_down};
+ghost use Rattle.sh_printer.specs.Chains.{Chained, down, first_of, has_first, if_bare, last_operator, next_down};
 ghost use Rattle.sh_printer.specs.Levels.{own_level};
 ghost use Rattle.sh_printer.specs.Pieces.{Apart, AsLayer, Comes, leaf_text, operand_of, owed_weight, piece_text, piece_weight, sums_weight};
 ghost use Rattle.sh_printing.specs.Sums.{levelled_text};
@@ -177,7 +177,7 @@ fn links_apart<'a>(expr: &'a Expr, count: usize, bits: u8, operands: Operands<'a
 
 /// An operator between operands, and its second operand.
 fn link_piece<'a>(expr: &'a Expr, operands: Operands<'a>) -> Piece<'a>
-    ensures text { (full : Bool) → piece_text full result ≡ last_text (operand_of full operands.entry) expr.now }
+    ensures text { (full : Bool) → piece_text full result ≡ last_operator (operand_of full operands.entry) expr.now }
     ensures weight { piece_weight result < 200 * nodes expr.now + words_weight (words_of (map view_word operands.entry.words.now)) + owed_weight operands.entry.owed.now }
 {
     match expr {
@@ -280,7 +280,7 @@ fn infix_apart<'a>(
     operands: Operands<'a>,
 ) -> Split<'a>
     requires { nodes first.now < nodes expr.now }
-    ensures { Comes (λ full. levelled_text (operand_of full operands.entry) first.now wanted ++ last_text (operand_of full operands.entry) expr.now) (sums_weight operands.entry (nodes expr.now)) result }
+    ensures { Comes (λ full. levelled_text (operand_of full operands.entry) first.now wanted ++ last_operator (operand_of full operands.entry) expr.now) (sums_weight operands.entry (nodes expr.now)) result }
 {
     Split {
         first: Piece::Node(Node::Sum(SumPiece::Expr(first, wanted), operands)),
