@@ -8,14 +8,13 @@ use Rattle.sh_grammar.specs.Shape as shape
 use Rattle.sh_grammar.specs.Shape.{plain, no_part, part, no_word, word, no_redirect, redirect, no_assign, assign, RedirectOp, read, write, append, here_literal, here_expanded, copy_in, copy_out}
 use Rattle.sh_grammar.specs.Bytes.{Text, in_word, in_body, gap, starts, unit_starts, begins_unit}
 use Rattle.sh_grammar.specs.Tokens.{Open, DLess, is_token}
-use Rattle.sh_grammar.specs.Steps.{is_copied}
 use Rattle.sh_printing.specs.Delimiters.{delimiter, free_from, tries}
-use Rattle.sh_printing.specs.Marks.{End, ended, blank, led, fd_text, aimed_text, delimiter_text}
+use Rattle.sh_printing.specs.Marks.{End, ended, blank, led, fd_text, aimed_text}
 use Rattle.sh_printing.specs.Spellable.{begins_with}
-use Rattle.sh_printing.specs.Printing.{parts_text, words_text, redirects_text, assigns_text, value_text, owed_behind, parts_open}
-use Rattle.sh_printing.specs.Printable.{word_fits, words_fit, redirects_fit, fd_fits, is_copied_word, is_copied_text}
-use Rattle.sh_printing.proofs.BackBytes.{both, isnt, neither, joins, no_join, gap_is, gap_blank, three}
-use Rattle.sh_printing.proofs.BackTokens.{Outside, word_ends, test_is, metas}
+use Rattle.sh_printing.specs.Printing.{parts_text, words_text, redirects_text, assigns_text, owed_behind, parts_open}
+use Rattle.sh_printing.specs.Printable.{word_fits, words_fit, redirects_fit, fd_fits, is_copied_word}
+use Rattle.sh_printing.proofs.BackBytes.{both, joins, no_join, gap_is, three}
+use Rattle.sh_printing.proofs.BackTokens.{Outside, word_ends, test_is}
 use Rattle.sh_printing.proofs.BackBehind.{parts_on}
 use Rattle.sh_printing.proofs.BackWordFronts.{WordFront, word_begins}
 use Rattle.sh_printing.proofs.BackDelimiters.{delimiter_word, is_delimiter_byte, plain_delimiter, digit_at}

@@ -1,5 +1,5 @@
 -- A script whose text is short has no delimiter that is a line of its body: each body is a part of the text.
-use Rattle.std.proofs.Common.{◌≡◌, ℕ, suc, ◌+◌, ◌<◌, ◌≤◌, Bool, true, false, List, [], ◌∷◌, ◌++◌, length, refl, subst, arith}
+use Rattle.std.proofs.Common.{◌≡◌, ℕ, suc, ◌+◌, ◌<◌, ◌≤◌, Bool, true, false, [], ◌∷◌, ◌++◌, length, refl, subst, arith}
 use Rattle.std.specs.Prelude.{◌||◌, ◌&&◌, not, nat_lt, codes, if◌then◌else◌}
 use Rattle.std.proofs.lemmas.Bool.{false≢true}
 use Rattle.span_text.specs.Names.{is_name}

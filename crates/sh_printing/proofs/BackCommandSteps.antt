@@ -7,7 +7,7 @@ use Rattle.text_grammar.specs.Grammar.{star, rule}
 use Rattle.text_grammar.specs.Derivations.{Tree, more, At}
 use Rattle.text_grammar.specs.Values.{kids}
 use Rattle.sh_grammar.specs.Shape as shape
-use Rattle.sh_grammar.specs.Shape.{RedirectOp, read, write, append, here_literal, here_expanded, copy_in, copy_out, redirect, no_redirect, no_part, part, plain}
+use Rattle.sh_grammar.specs.Shape.{RedirectOp, here_literal, here_expanded, copy_in, copy_out, redirect, no_redirect, no_part, part, plain}
 use Rattle.sh_grammar.specs.Bytes.{Text, in_word, gap}
 use Rattle.sh_grammar.specs.State.{State, Sum, Node, redirect_node, aimed_node}
 use Rattle.sh_grammar.specs.Table.{Test, Rule}

@@ -4,20 +4,20 @@ use Rattle.std.specs.Prelude.{◌||◌, ◌&&◌, not, ◌==◌, nat_lt, if◌th
 use Rattle.std.proofs.lemmas.Bool.{true≢false, false≢true}
 use Rattle.span_text.specs.Names.{is_name}
 use Rattle.sh_grammar.specs.Shape as shape
-use Rattle.sh_grammar.specs.Shape.{no_word, word, no_redirect, redirect, no_assign, assign, command, simple, group, subshell, branching, loop, walk, cases, function, no_branch, branch, stage, no_stage, pipeline, chain, no_chain, next_chain, no_link, and_link, or_link}
-use Rattle.sh_grammar.specs.Bytes.{Text, in_word, gap, is_literal, is_plain, is_active, is_meta, literal_run, unit_starts, starts}
+use Rattle.sh_grammar.specs.Shape.{no_word, word, no_redirect, redirect, no_assign, assign, command, simple, group, subshell, branching, loop, walk, cases, function, no_branch, branch, stage, no_stage, pipeline, chain, no_chain, next_chain}
+use Rattle.sh_grammar.specs.Bytes.{Text, in_word, gap, is_literal, is_plain, is_active, is_meta, literal_run}
 use Rattle.sh_grammar.specs.Tokens.{Open, Newline, code, is_token, If, For, While, Until, Case, OpenBrace, Bang, key_text, command_next, compound_next, simple_next, name_next, pipeline_next}
-use Rattle.sh_printing.specs.Marks.{End, ended, blank, led}
+use Rattle.sh_printing.specs.Marks.{End, ended, blank}
 use Rattle.sh_printing.specs.Spellable.{is_reserved_text, is_literal_text}
-use Rattle.sh_printing.specs.Printing.{parts_text, words_text, redirects_text, assigns_text, value_text, command_text, stages_text, pipeline_text, links_text, chain_text, list_text, is_something, has_assign, has_word, words_last, last_words_text, last_text, stage_end, link_end}
-use Rattle.sh_printing.specs.Printable.{word_fits, words_fit, redirects_fit, assigns_fit, name_fits, kind_fits, command_fits, stages_fit, pipeline_fits, links_fit, chain_fits, list_fits, has_redirect, has_chain, has_stage, has_branch, is_assignment, is_reserved_word, has_compound, branches_fit, otherwise_fits}
+use Rattle.sh_printing.specs.Printing.{parts_text, words_text, redirects_text, assigns_text, value_text, command_text, stages_text, pipeline_text, links_text, chain_text, list_text, has_assign, has_word, last_words_text, stage_end, link_end}
+use Rattle.sh_printing.specs.Printable.{word_fits, words_fit, redirects_fit, assigns_fit, name_fits, kind_fits, command_fits, stages_fit, pipeline_fits, links_fit, chain_fits, list_fits, has_redirect, has_chain, is_assignment, is_reserved_word, has_compound, branches_fit, otherwise_fits}
 use Rattle.sh_printing.proofs.BackBytes.{both, isnt, no_join, gap_is, literal_back}
 use Rattle.sh_printing.proofs.BackTokens.{word_ends, test_is, key_gap, key_token, open_token, key_test}
 use Rattle.sh_printing.proofs.BackBehind.{parts_on}
 use Rattle.sh_printing.proofs.BackBraces.{right_five, right_four}
 use Rattle.sh_printing.proofs.BackWordFronts.{WordFront}
 use Rattle.sh_printing.proofs.BackKeys.{NoKeys, no_compound, no_other, by_none, by_text}
-use Rattle.sh_printing.proofs.BackNamed.{kind_free, command_free, assigns_free, words_free, stages_free, pipeline_free, links_free, chain_free, list_free, redirects_free}
+use Rattle.sh_printing.proofs.BackNamed.{command_free, stages_free, pipeline_free, links_free, chain_free, list_free}
 use Rattle.sh_printing.proofs.BackSimple.{SimpleFront, redirect_simple, assign_front, name_word, name_bytes, name_plain, word_token, word_is_other, word_is_word, word_no_redirect}
 use Rattle.sh_printing.proofs.BackFirst.{first_simple}
 use Rattle.sh_printing.proofs.BackCommands.{CommandFront, simple_front, key_command, pipeline_begins_at}

@@ -63,8 +63,8 @@ last_stops i d end w ws t e n s owed b =
     let g : gap s.bytes ≡ gap v = ap gap (b ∙ last_text_is end w ws t owed) ∙ gap_blank v in
     rw (carry_redirect s.bytes v g, carry_assign s.bytes v g, word_no_redirect v v (word_token v v f.solid f), first.no_assign n) refl
 
-pub words_last : (i : Bool) (d : ℕ) (end : End) (w : shape.Parts) (ws : shape.Words) (t : Text) → words_fit i d (word w ws) ≡ true → is_assignment w ≡ false → Lasts prefix_begins (last_words_text true end (word w ws)) t
-words_last i d end w ws t e n = record { outside = last_outside end (word w ws) t; stops = last_stops i d end w ws t e n }
+pub words_lasts : (i : Bool) (d : ℕ) (end : End) (w : shape.Parts) (ws : shape.Words) (t : Text) → words_fit i d (word w ws) ≡ true → is_assignment w ≡ false → Lasts prefix_begins (last_words_text true end (word w ws)) t
+words_lasts i d end w ws t e n = record { outside = last_outside end (word w ws) t; stops = last_stops i d end w ws t e n }
 
 -- ---- the redirections before them
 

@@ -10,7 +10,7 @@ use Rattle.sh_grammar.specs.Shape.{no_chain, next_chain}
 use Rattle.sh_grammar.specs.Bytes.{Text, gap}
 use Rattle.sh_grammar.specs.Tokens.{Newline, Semi, is_token, code}
 use Rattle.sh_grammar.specs.State.{State, Node, start_at, fresh, chain_node, chains_in}
-use Rattle.sh_grammar.specs.Table.{Rule, piece, complete, complete_more, goes_on, next, line, ends, op}
+use Rattle.sh_grammar.specs.Table.{Rule, piece, complete, line, ends}
 use Rattle.sh_grammar.specs.Table as table
 use Rattle.sh_grammar.specs.Steps.{Known, holds}
 use Rattle.sh_grammar.specs.Acts.{act}

@@ -1,10 +1,9 @@
 -- The steps of the induction over simple commands.
 use Rattle.std.proofs.Common.{◌≡◌, ℕ, true, false, List, [], ◌∷◌, ◌++◌, refl, sym, ap, subst, ◌∙◌, append_assoc}
-use Rattle.std.proofs.lemmas.List.{append-nil}
 use Rattle.text_grammar.specs.Grammar.{star, rule}
 use Rattle.span_text.specs.Names.{is_name}
 use Rattle.sh_grammar.specs.Shape as shape
-use Rattle.sh_grammar.specs.Shape.{simple, assign, no_assign, word, no_word, redirect, no_redirect, command, no_value, value}
+use Rattle.sh_grammar.specs.Shape.{simple, assign, no_assign, word, no_redirect, command}
 use Rattle.sh_grammar.specs.Bytes.{Text, in_word, gap}
 use Rattle.sh_grammar.specs.Tokens.{redirect_next, assign_next}
 use Rattle.sh_grammar.specs.State.{State, Sum, Node, word_node, assign_node, command_node, words_in, assigns_in, redirects_in}
@@ -13,7 +12,7 @@ use Rattle.sh_grammar.specs.Steps.{Known, holds}
 use Rattle.sh_printing.specs.Marks.{End, ended, blank}
 use Rattle.sh_printing.specs.Printing.{parts_text, words_text, assigns_text, value_text}
 use Rattle.sh_printing.proofs.BackSays.{Says, no_more, one_more, saying}
-use Rattle.sh_printing.proofs.BackDue.{Due, named, st, pending_text, bodies_of}
+use Rattle.sh_printing.proofs.BackDue.{st, pending_text}
 use Rattle.sh_printing.proofs.BackBytes.{gap_blank}
 use Rattle.sh_printing.proofs.BackBehind.{parts_on}
 use Rattle.sh_printing.proofs.BackWordFronts.{WordFront}

@@ -6,69 +6,58 @@ use Rattle.std.proofs.lemmas.List.{append-nil}
 use Rattle.text_grammar.specs.Grammar.{star, rule, seq, choose, pass}
 use Rattle.span_text.specs.Names.{is_name}
 use Rattle.sh_grammar.specs.Shape as shape
-use Rattle.sh_grammar.specs.Shape.{plain, exact, double, tilde, param, subst as listing, arith as sum, no_part, part, as_is, length_of, fill, trim, no_word, word, no_value, value, no_assign, assign, no_redirect, redirect, command, simple, group, subshell, branching, loop, walk, cases, function, no_branch, branch, no_else, otherwise, parameters, listed, no_item, item, no_stage, stage, pipeline, no_link, and_link, or_link, chain, no_chain, next_chain}
+use Rattle.sh_grammar.specs.Shape.{no_part, part, no_word, word, no_assign, no_redirect, redirect, command, simple, group, subshell, branching, loop, walk, cases, function, no_branch, branch, no_else, otherwise, listed, no_item, item, stage, pipeline, no_link, and_link, or_link, chain}
 use Rattle.sh_grammar.specs.Bytes.{Text, in_word, in_double, gap}
-use Rattle.sh_grammar.specs.Tokens.{Newline, Word, Open, is_token, key_text, Key, tilde_next}
-use Rattle.sh_grammar.specs.State.{State, Sum, Node, part_node, word_node, assign_node, command_node, kind_node, pipeline_node, chain_node, script_node}
-use Rattle.sh_grammar.specs.Table.{Test, Rule, expansion, word_parts, prefix_begins, prefix_item}
+use Rattle.sh_grammar.specs.Tokens.{Newline, Word, Open, is_token, key_text}
+use Rattle.sh_grammar.specs.State.{State, Sum, Node, part_node, word_node, command_node, kind_node, pipeline_node, chain_node, script_node}
+use Rattle.sh_grammar.specs.Table.{Test, Rule, expansion}
 use Rattle.sh_grammar.specs.Table as table
-use Rattle.sh_grammar.specs.Steps.{Known, limit, is_empty, expanded_parts}
+use Rattle.sh_grammar.specs.Steps.{Known, limit}
 use Rattle.sh_grammar.proofs.Known.{known_in}
 use Rattle.sh_printing.specs.Marks as marks
-use Rattle.sh_printing.specs.Marks.{End, blank, ended, param_text}
-use Rattle.sh_printing.specs.Printing.{part_text, parts_text, words_text, value_text, assigns_text, redirects_text, command_text, kind_text, list_text, continued, behind_opening, part_opens, parts_open, words_open, op_opens, is_something, last_text, has_assign}
-use Rattle.sh_printing.specs.Printable.{part_fits, parts_fit, operand_fits, operand_checks, word_fits, words_fit, patterns_fit, value_fits, assigns_fit, redirects_fit, command_fits, kind_fits, list_fits, plain_fits, reads_tilde, behind_tilde, is_expansion, is_plain_part, has_part, is_length, changes_mark, has_redirect, fd_fits, is_copied_word, literal_body, ends_line, plain_begins, is_assignment, name_fits}
+use Rattle.sh_printing.specs.Marks.{End, blank, ended}
+use Rattle.sh_printing.specs.Printing.{part_text, parts_text, redirects_text, command_text, kind_text, list_text, continued, behind_opening, part_opens, parts_open, is_something, last_text}
+use Rattle.sh_printing.specs.Printable.{command_fits, kind_fits, has_redirect, fd_fits}
 use Rattle.sh_printing.proofs.BackSays.{Says, ◌then◌, saying, at_state, to_state}
-use Rattle.sh_printing.proofs.BackDue.{Due, named, named_after, named_more, st, after, pending_text, Covers, covers_first, covers_second, covers_after, covers_next, owing_more}
-use Rattle.sh_printing.proofs.BackBytes.{both, isnt, neither, four}
+use Rattle.sh_printing.proofs.BackDue.{Due, named, named_more, st, after, pending_text, Covers, covers_first, covers_second, owing_more}
+use Rattle.sh_printing.proofs.BackBytes.{four}
 use Rattle.sh_printing.proofs.BackTokens.{Outside}
-use Rattle.sh_printing.proofs.BackBehind.{Closes, parts_on, word_closes, double_closes, fill_closes, trim_closes, body_closes, name_ends}
-use Rattle.sh_printing.proofs.BackWords.{Parts, no_parts}
-use Rattle.sh_printing.proofs.BackWordFronts.{word_begins, plain_no_tilde}
-use Rattle.sh_printing.proofs.BackRedirects.{read_says, write_says, append_says, unit_aimed, op_text}
+use Rattle.sh_printing.proofs.BackBehind.{parts_on}
+use Rattle.sh_printing.proofs.BackWords.{Parts}
+use Rattle.sh_printing.proofs.BackRedirects.{op_text}
 use Rattle.sh_printing.proofs.BackLines.{clean, Goes}
-use Rattle.sh_printing.proofs.BackCommands.{Redirecting, Wording}
+use Rattle.sh_printing.proofs.BackCommands.{Redirecting}
 use Rattle.sh_printing.proofs.BackLists.{On}
 use Rattle.sh_printing.proofs.BackNamed.{body_of, part_bodies, parts_bodies, redirects_bodies, part_closed, parts_closed, list_bodies}
-use Rattle.sh_printing.proofs.BackNodes.{part_nodes, parts_back, word_nodes, assign_nodes, redirect_nodes}
+use Rattle.sh_printing.proofs.BackNodes.{part_nodes, parts_back, word_nodes, redirect_nodes}
 use Rattle.sh_printing.proofs.BackSums.{opening_of}
-use Rattle.sh_printing.proofs.BackSteps.{after_clean, plain_step, exact_step, double_step, expansion_step, parts_step, WordTo, word_step, tilde_step, marked_tilde, word_node_of, value_node_of, opened, OpenedTo, listing_step}
-use Rattle.sh_printing.proofs.BackBegins.{word_first, words_outside, assigns_outside, redirects_outside, redirect_facts}
-use Rattle.sh_printing.proofs.BackCommands.{close_end}
+use Rattle.sh_printing.proofs.BackSteps.{after_clean}
 use Rattle.sh_printing.proofs.BackCommandSteps.{HereTarget, here_owed, redirects_step, redirects_on}
 use Rattle.sh_grammar.specs.Tokens.{Pipe, Bang}
-use Rattle.sh_grammar.specs.Table.{suffix_begins, suffix_item}
-use Rattle.sh_printing.specs.Printing.{stages_text, pipeline_text, links_text, chain_text, stage_end, link_end}
-use Rattle.sh_printing.specs.Printable.{stages_fit, pipeline_fits, links_fit, chain_fits, is_reserved_word}
-use Rattle.sh_printing.proofs.BackDue.{Pending, bodies_of}
+use Rattle.sh_printing.specs.Printing.{link_end}
+use Rattle.sh_printing.proofs.BackDue.{Pending}
 use Rattle.sh_printing.proofs.BackBytes.{gap_blank}
 use Rattle.sh_printing.proofs.BackNamed.{command_bodies, kind_bodies}
 use Rattle.sh_printing.proofs.BackNodes.{stage_nodes, link_nodes, chain_nodes}
 use Rattle.sh_printing.proofs.BackEnds.{marks_pipe}
-use Rattle.sh_printing.proofs.BackCommands.{by_suffix, by_prefix, suffix_words}
 use Rattle.sh_printing.proofs.BackLists.{MoreTo, carry_pipeline}
-use Rattle.sh_printing.proofs.BackSteps.{no_chains, some_chains}
-use Rattle.sh_printing.proofs.BackBegins.{words_open as words_no_open, redirects_no_open, redirect_at}
 use Rattle.sh_printing.proofs.BackHeads.{PipelineFront}
 use Rattle.sh_grammar.specs.Tokens.{Do, Done, OpenBrace, CloseBrace, If, For, While, Until, Case}
-use Rattle.sh_printing.specs.Printable.{is_compound, has_chain}
+use Rattle.sh_printing.specs.Printable.{is_compound}
 use Rattle.sh_printing.proofs.BackSimple.{carry_token}
 use Rattle.sh_printing.proofs.BackBraces.{right_five}
-use Rattle.sh_printing.proofs.BackCommands.{by_redirect, key_end, key_compound}
-use Rattle.sh_printing.proofs.BackCompound.{ListTo, group_says, subshell_says, while_says, until_says}
+use Rattle.sh_printing.proofs.BackCommands.{key_end, key_compound}
+use Rattle.sh_printing.proofs.BackCompound.{ListTo, while_says, until_says}
 use Rattle.sh_printing.proofs.BackLoops.{compound_command_says, compound_begins_says}
 use Rattle.sh_printing.proofs.BackSteps.{list_node_of}
 use Rattle.sh_grammar.specs.Tokens.{Then, Elif, Else, Fi}
 use Rattle.sh_printing.specs.Printing.{branches_text, otherwise_text}
-use Rattle.sh_printing.specs.Printable.{branches_fit, otherwise_fits}
-use Rattle.sh_printing.proofs.BackCompound.{Elifs, ElsePart, no_elif, one_elif, no_else_says, else_says, if_says}
+use Rattle.sh_printing.specs.Printable.{otherwise_fits}
+use Rattle.sh_printing.proofs.BackCompound.{Elifs, ElsePart, one_elif, else_says, if_says}
 use Rattle.sh_printing.proofs.BackLoops.{Walks, walks_none, walks_listed, for_says}
 use Rattle.sh_grammar.specs.Tokens.{Esac}
 use Rattle.sh_printing.specs.Printing.{patterns_text, items_text}
-use Rattle.sh_printing.specs.Printable.{items_fit}
-use Rattle.sh_printing.proofs.BackCommands.{semis_end}
 use Rattle.sh_printing.proofs.BackLoops.{ItemsTo, no_items, case_says}
-use Rattle.sh_printing.proofs.BackSteps.{maybe_node_of}
 
 -- ---- depths
 

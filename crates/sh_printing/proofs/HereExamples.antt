@@ -1,8 +1,8 @@
 -- Here-documents, their delimiters, and the texts that are printed of them, worked out.
-use Rattle.std.proofs.Common.{◌≡◌, ℕ, suc, ◌+◌, ◌-◌, ◌^◌, true, false, [], ◌∷◌, ◌++◌, None, refl, ap, ◌∙◌, arith}
+use Rattle.std.proofs.Common.{◌≡◌, ℕ, suc, ◌+◌, ◌-◌, ◌^◌, true, false, ◌∷◌, None, refl, ap, ◌∙◌, arith}
 use Rattle.std.specs.Prelude.{Bool, codes, if◌then◌else◌}
 use Rattle.std.proofs.lemmas.Fmt.{decimal_digit}
-use Rattle.sh_grammar.specs.Shape.{Script, plain, exact, double, param, named, as_is, subst, no_part, part, Parts, no_word, word, Words, no_assign, no_redirect, redirect, Redirects, write, here_expanded, here_literal, Command, command, Kind, simple, group, no_stage, stage, Stages, pipeline, no_link, chain, no_chain, next_chain}
+use Rattle.sh_grammar.specs.Shape.{Script, plain, subst, no_part, part, Parts, no_word, word, no_assign, no_redirect, redirect, Redirects, write, here_expanded, here_literal, Command, command, Kind, simple, group, no_stage, stage, pipeline, no_link, chain, no_chain, next_chain}
 use Rattle.sh_grammar.specs.Bytes.{Text}
 use Rattle.sh_grammar.specs.Tokens.{key_text}
 use Rattle.sh_printing.specs.Delimiters.{delimiter, numbered, free_from, has_line, sight, tries}

@@ -17,6 +17,7 @@ pub mod BackFree
 pub mod BackFronts
 pub mod BackHeads
 pub mod BackHere
+pub mod BackInner
 pub mod BackKept
 pub mod BackKeptTexts
 pub mod BackKeys
@@ -34,6 +35,7 @@ pub mod BackSays
 pub mod BackScripts
 pub mod BackSimple
 pub mod BackSimpleSteps
+pub mod BackSimpleTree
 pub mod BackSteps
 pub mod BackSumCells
 pub mod BackSumParts
@@ -43,5 +45,6 @@ pub mod BackTokens
 pub mod BackTree
 pub mod BackTreeSteps
 pub mod BackWordFronts
+pub mod BackWordTree
 pub mod BackWords
 pub mod HereExamples
