@@ -1,10 +1,12 @@
 pub mod Bodies
+pub mod Chains
 pub mod Comings
 pub mod CommandTexts
 pub mod Covers
 pub mod Firsts
 pub mod GatheredBodies
 pub mod Gathers
+pub mod LastWords
 pub mod Lines
 pub mod Numbers
 pub mod Openings
@@ -12,5 +14,7 @@ pub mod PartViews
 pub mod Puts
 pub mod RedirectTexts
 pub mod Searches
+pub mod SumJoins
 pub mod SumTexts
+pub mod ValueViews
 pub mod Walks

@@ -1,17 +1,18 @@
 -- Redirections one after the other, with the bodies that are still to come.
 use Rattle.std.proofs.Common.{◌≡◌, ℕ, ◌+◌, ◌<◌, ◌≤◌, Bool, true, false, not, ◌&&◌, List, [], ◌∷◌, ◌++◌, drop, take, length, get_or, refl, sym, ap, ◌∙◌, append_assoc, arith}
-use Rattle.std.specs.Prelude.{zero, suc, map}
+use Rattle.std.specs.Prelude.{zero, suc, map, if◌then◌else◌}
 use Rattle.std.proofs.lemmas.List.{append-nil, take_more}
 use Rattle.sh_syntax.specs.declared.tree.Redirect.{Redirect, out-Redirect}
-use Rattle.sh_syntax.specs.declared.tree.Word.{out-Word}
+use Rattle.sh_syntax.specs.declared.tree.Word.{Word, out-Word}
 use Rattle.sh_grammar.specs.Bytes.{Text, in_body, in_word}
 use Rattle.sh_grammar.specs.Shape as shape
-use Rattle.sh_printing.specs.Marks.{End, blank, gap, led, fd_text, aimed_text, delimiter_text, is_here}
-use Rattle.sh_printer.specs.Owed.{body_by, body_text, owed_text}
-use Rattle.sh_printer.specs.Pieces.{here_start, here_end, here_text, inner_text, owed_of, owed_weight, operator_text, target_text, delimiter_of, redirect_text, still_owed_behind}
-use Rattle.sh_printing.specs.Printing.{parts_open, parts_text, owed_behind, redirects_text}
-use Rattle.sh_syntax.specs.View.{Aimed, view_operator, view_part, view_redirect, parts_of, redirects_of}
-use Rattle.sh_printer.specs.Weights.{parts_weight}
+use Rattle.sh_printing.specs.Marks.{blank, ended, gap, behind_word, led, fd_text, aimed_text, delimiter_text, is_here}
+use Rattle.sh_printer.specs.Owed.{body_by, body_text, owed_text, still_owed}
+use Rattle.sh_printer.specs.Pieces.{here_start, here_end, here_text, inner_text, owed_of, owed_weight, operator_text, target_text, delimiter_of, redirect_text, still_owed_behind, last_words_of}
+use Rattle.sh_printing.specs.Marks.{End}
+use Rattle.sh_printing.specs.Printing.{parts_open, parts_text, owed_behind, redirects_text, last_text, last_words_text, words_last}
+use Rattle.sh_syntax.specs.View.{Aimed, view_operator, view_part, view_redirect, view_word, parts_of, redirects_of, words_of}
+use Rattle.sh_printer.specs.Weights.{kind_weight, parts_weight, words_weight}
 use Rattle.sh_printer.proofs.Bodies.{owed_append}
 use Rattle.sh_printer.proofs.Firsts.{led_then}
 use Rattle.sh_printer.proofs.Openings.{drop_at}
@@ -69,15 +70,15 @@ aimed_split full shape.here_expanded body word = refl
 aimed_split full shape.copy_in body word = refl
 aimed_split full shape.copy_out body word = refl
 
-one_redirect : (full behind : Bool) (end : End) (owed : Text) (r : Aimed) (rest : shape.Redirects) → (led behind [] ++ redirect_text full owed r) ++ redirects_text full true end (still_owed_behind full r owed) rest ≡ redirects_text full behind end owed (shape.redirect r.fd r.op r.word rest)
-one_redirect full behind end owed r rest =
-    ap (λ (t : Text). t ++ redirects_text full true end (still_owed_behind full r owed) rest)
+one_redirect : (full behind : Bool) (last : Text → Text) (owed : Text) (r : Aimed) (rest : shape.Redirects) → (led behind [] ++ redirect_text full owed r) ++ redirects_text full true last (still_owed_behind full r owed) rest ≡ redirects_text full behind last owed (shape.redirect r.fd r.op r.word rest)
+one_redirect full behind last owed r rest =
+    ap (λ (t : Text). t ++ redirects_text full true last (still_owed_behind full r owed) rest)
     (led_then behind (redirect_text full owed r) ∙ ap (λ (t : Text). led behind t) (append_assoc (fd_text r.fd) (operator_text r.op) (target_text r.op (delimiter_of full r.word) (parts_text full in_word (gap owed) r.word)) ∙ ap (λ (t : Text). fd_text r.fd ++ t) (aimed_split full r.op r.word (parts_text full in_word (gap owed) r.word))))
 
-pub redirects_next : (full behind : Bool) (end : End) (rs : List Redirect) (i : ℕ) (r : Redirect) → i < length rs → r ≡ get_or rs i r → (led behind [] ++ redirect_text full (owed_of full (take i rs)) (view_redirect r)) ++ redirects_text full true end (still_owed_behind full (view_redirect r) (owed_of full (take i rs))) (redirects_of (map view_redirect (drop (i + 1) rs))) ≡ redirects_text full behind end (owed_of full (take i rs)) (redirects_of (map view_redirect (drop i rs)))
-redirects_next full behind end rs i r lt is =
-    one_redirect full behind end (owed_of full (take i rs)) (view_redirect r) (redirects_of (map view_redirect (drop (i + 1) rs)))
-    ∙ sym (ap (λ (l : List Redirect). redirects_text full behind end (owed_of full (take i rs)) (redirects_of (map view_redirect l))) (drop_at rs i r lt is))
+pub redirects_next : (full behind : Bool) (last : Text → Text) (rs : List Redirect) (i : ℕ) (r : Redirect) → i < length rs → r ≡ get_or rs i r → (led behind [] ++ redirect_text full (owed_of full (take i rs)) (view_redirect r)) ++ redirects_text full true last (still_owed_behind full (view_redirect r) (owed_of full (take i rs))) (redirects_of (map view_redirect (drop (i + 1) rs))) ≡ redirects_text full behind last (owed_of full (take i rs)) (redirects_of (map view_redirect (drop i rs)))
+redirects_next full behind last rs i r lt is =
+    one_redirect full behind last (owed_of full (take i rs)) (view_redirect r) (redirects_of (map view_redirect (drop (i + 1) rs)))
+    ∙ sym (ap (λ (l : List Redirect). redirects_text full behind last (owed_of full (take i rs)) (redirects_of (map view_redirect l))) (drop_at rs i r lt is))
 
 pub redirect_weighs : (rs : List Redirect) (i : ℕ) (r : Redirect) → i < length rs → r ≡ get_or rs i r → owed_weight (drop i rs) ≡ 20 + (parts_weight (view_redirect r).word + owed_weight (drop (i + 1) rs))
 redirect_weighs rs i r lt is = ap owed_weight (drop_at rs i r lt is)
@@ -111,3 +112,40 @@ body_parts full r e = rw (redirect_is r, e, word_is (out-Redirect r).word) (sym 
 
 pub no_body : (full : Bool) (r : Redirect) → is_here (view_operator (out-Redirect r).op) ≡ false → body_text full (view_redirect r) ≡ []
 no_body full r e = rw (redirect_is r, e) refl
+
+-- ---- words behind the redirections
+
+last_by : (full : Bool) (end : End) (ws : shape.Words) (last : Bool) → last_words_text full end (if last then ws else shape.no_word) ≡ (if last then last_words_text full end ws else ended end)
+last_by full end ws true = refl
+last_by full end ws false = refl
+
+pub last_is : (full : Bool) (end : End) (k : shape.Kind) → last_words_text full end (last_words_of k) ≡ last_text full end k
+last_is full end (shape.simple as' ws) = last_by full end ws (words_last as' ws)
+last_is full end (shape.group s) = refl
+last_is full end (shape.subshell s) = refl
+last_is full end (shape.branching bs o) = refl
+last_is full end (shape.loop until t b) = refl
+last_is full end (shape.walk n ws b) = refl
+last_is full end (shape.cases w is) = refl
+last_is full end (shape.function n c) = refl
+
+last_less_by : (ws : shape.Words) (last : Bool) → words_weight (if last then ws else shape.no_word) ≤ words_weight ws
+last_less_by ws true = omega arith
+last_less_by ws false = omega arith
+
+pub last_less : (k : shape.Kind) → words_weight (last_words_of k) ≤ kind_weight k
+last_less (shape.simple as' ws) = omega (arith, last_less_by ws (words_last as' ws))
+last_less (shape.group s) = omega arith
+last_less (shape.subshell s) = omega arith
+last_less (shape.branching bs o) = omega arith
+last_less (shape.loop until t b) = omega arith
+last_less (shape.walk n ws b) = omega arith
+last_less (shape.cases w is) = omega arith
+last_less (shape.function n c) = omega arith
+
+owed_behind_last : (full opens : Bool) (owed : List Redirect) → owed_of full (still_owed opens owed) ≡ behind_word opens (owed_of full owed)
+owed_behind_last full true owed = refl
+owed_behind_last full false owed = refl
+
+pub last_first : (full : Bool) (end : End) (owed : List Redirect) (ws : List Word) (w : Word) → ws ≡ w ∷ drop 1 ws → (32 ∷ parts_text full in_word (gap (owed_of full owed)) (view_word w)) ++ last_words_text full end (words_of (map view_word (drop 1 ws))) (owed_of full (still_owed (parts_open (view_word w)) owed)) ≡ last_words_text full end (words_of (map view_word ws)) (owed_of full owed)
+last_first full end owed ws w e = rw (owed_behind_last full (parts_open (view_word w)) owed) (sym (ap (λ (l : List Word). last_words_text full end (words_of (map view_word l)) (owed_of full owed)) e))

@@ -1,5 +1,5 @@
 -- The level and the text of an expression, one operator deep.
-use Rattle.std.proofs.Common.{◌≡◌, ℕ, ◌≤◌, zero, suc, List, length, ◌++◌, ◌∷◌, [], Bool, true, false, refl, sym, ap, ◌∙◌, arith}
+use Rattle.std.proofs.Common.{◌≡◌, ℕ, ◌≤◌, ◌<◌, ◌+◌, ◌||◌, zero, suc, List, length, get_or, take, ◌++◌, ◌∷◌, [], Bool, true, false, refl, sym, ap, ◌∙◌, arith}
 use Rattle.std.proofs.lemmas.Bool.{le-leb}
 use Rattle.std.specs.Prelude.{nat_le, map, if◌then◌else◌}
 use Rattle.span_text.specs.declared.expr.Expr.{Expr}
@@ -9,11 +9,12 @@ use Rattle.span_text.specs.declared.expr.Expr.TheViews.{roll-Expr}
 use Rattle.span_text.specs.declared.expr.Expr.TheFolds.{map-Expr, fold-roll-Expr, ind-Expr}
 use Rattle.span_text.specs.declared.sign.Infix.TheVariants as sign
 use Rattle.span_text.specs.Expressions.{level}
-use Rattle.sh_grammar.specs.Bytes.{Text}
+use Rattle.sh_grammar.specs.Bytes.{Text, in_double}
 use Rattle.sh_grammar.specs.Steps.{nth}
 use Rattle.sh_printer.specs.Levels.{level_step, own_level}
 use Rattle.sh_syntax.specs.declared.tree.Word.{Word}
-use Rattle.sh_printing.specs.Printing.{behind_opening, operand_texts, parts_open}
+use Rattle.sh_printing.specs.Printing.{behind_opening, operand_texts, parts_open, parts_text, words_open}
+use Rattle.sh_printer.specs.Weights.{parts_weight, words_weight}
 use Rattle.sh_syntax.specs.View.{view_word, words_of}
 use Rattle.sh_printing.specs.Sums.{Levelled, expr_step, levelled_text}
 
@@ -63,3 +64,22 @@ pub operand_past : (full : Bool) (opening : Text) (ws : List Word) (n : ℕ) →
 operand_past full opening [] n le = refl
 operand_past full opening (w ∷ ws) zero le = absurd (omega arith)
 operand_past full opening (w ∷ ws) (suc n) le = operand_past full (behind_opening (parts_open (view_word w)) opening) ws n (omega arith)
+
+behind_or : (a b : Bool) (opening : Text) → behind_opening b (behind_opening a opening) ≡ behind_opening (a || b) opening
+behind_or true true opening = refl
+behind_or true false opening = refl
+behind_or false true opening = refl
+behind_or false false opening = refl
+
+-- the operand of a number, behind those before it
+pub operand_at : (full : Bool) (opening : Text) (ws : List Word) (n : ℕ) (w : Word) → n < length ws → w ≡ get_or ws n w → nth (operand_texts full opening (words_of (map view_word ws))) n ≡ parts_text full in_double (behind_opening (words_open (words_of (map view_word (take n ws)))) opening) (view_word w)
+operand_at full opening [] n w lt is = absurd (omega arith)
+operand_at full opening (v ∷ ws) zero w lt is = ap (λ (u : Word). parts_text full in_double opening (view_word u)) (sym is)
+operand_at full opening (v ∷ ws) (suc n) w lt is =
+    operand_at full (behind_opening (parts_open (view_word v)) opening) ws n w (omega arith) is
+    ∙ ap (λ (t : Text). parts_text full in_double t (view_word w)) (behind_or (parts_open (view_word v)) (words_open (words_of (map view_word (take n ws)))) opening)
+
+pub operand_weight : (ws : List Word) (n : ℕ) (w : Word) → n < length ws → w ≡ get_or ws n w → 20 + parts_weight (view_word w) ≤ words_weight (words_of (map view_word ws))
+operand_weight [] n w lt is = absurd (omega arith)
+operand_weight (v ∷ ws) zero w lt is = let same : parts_weight (view_word w) ≡ parts_weight (view_word v) = ap (λ (u : Word). parts_weight (view_word u)) is in omega arith
+operand_weight (v ∷ ws) (suc n) w lt is = omega (arith, operand_weight ws n w (omega arith) is)

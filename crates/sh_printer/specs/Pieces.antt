@@ -1,7 +1,9 @@
 -- The text of a piece, and that a node's pieces are its text.
-use Rattle.std.specs.Prelude.{◌≡◌, ℕ, ◌+◌, ◌*◌, ◌<◌, Bool, true, false, List, [], ◌∷◌, ◌++◌, Option, Some, None, codes, map, take, drop, option_map}
+use Rattle.std.specs.Prelude.{◌≡◌, ℕ, ◌+◌, ◌*◌, ◌<◌, Bool, true, false, List, [], ◌∷◌, ◌++◌, Option, Some, None, codes, map, take, drop, option_map, if◌then◌else◌}
 use Rattle.std.specs.Fmt.{signed_decimal}
 use Rattle.span_text.specs.declared.expr.Expr.{Expr}
+use Rattle.span_text.specs.declared.expr.Expr.TheOpen.{Expr-F}
+use Rattle.span_text.specs.declared.expr.Expr.TheFolds.{map-Expr}
 use Rattle.span_text.specs.Expression.{nodes}
 use Rattle.sh_grammar.specs.Bytes.{Text, in_body, in_word, has_single}
 use Rattle.sh_grammar.specs.Shape as shape
@@ -22,6 +24,7 @@ use Rattle.sh_printer.specs.declared.pieces.SumPiece.TheVariants as sums
 use Rattle.sh_printer.specs.declared.pieces.Operands.{Operands}
 use Rattle.sh_printer.specs.declared.pieces.Place.{Place}
 use Rattle.sh_printer.specs.declared.pieces.Split.{Split}
+use Rattle.sh_printer.specs.declared.pieces.Tail.{Tail}
 use Rattle.sh_printer.specs.declared.marks.End.{End as Ended}
 use Rattle.sh_syntax.specs.declared.tree.Part.{Part}
 use Rattle.sh_syntax.specs.declared.tree.Redirect.{Redirect}
@@ -30,8 +33,9 @@ use Rattle.sh_syntax.specs.declared.tree.Pipeline.{Pipeline}
 use Rattle.sh_syntax.specs.declared.tree.Joint.{Joint}
 use Rattle.sh_printing.specs.Marks.{End, blank, gap, exact_text, param_text, param_name, colon_text, test_text, fd_text, is_here, delimiter_text, whole_body}
 use Rattle.sh_printer.specs.Owed.{body_text, owed_text}
-use Rattle.sh_printing.specs.Printing.{owed_behind, parts_open, part_text, parts_text, operand_texts, words_text, value_text, assigns_text, redirects_text, command_text, kind_text, branches_text, for_words_text, items_text, patterns_text, stages_text, pipeline_text, links_text, chain_text, list_text}
-use Rattle.sh_printing.specs.Sums.{levelled_text, operators_text}
+use Rattle.sh_printing.specs.Printing.{owed_behind, parts_open, part_text, parts_text, operand_texts, words_text, value_text, assigns_text, last_words_text, words_last, redirects_text, command_text, kind_text, branches_text, for_words_text, items_text, patterns_text, stages_text, pipeline_text, links_text, chain_text, list_text}
+use Rattle.sh_printer.specs.Chains.{halves_text, layer_nodes}
+use Rattle.sh_printing.specs.Sums.{Levelled, expr_step, levelled_text}
 use Rattle.sh_syntax.specs.View.{Aimed, view, view_assign, view_case_item, view_command, view_item, view_param, view_part, view_pipeline, view_redirect, view_test, view_word, parts_of, words_of, assigns_of, redirects_of, branches_of, for_words_of, case_items_of, stages_of, links_of, items_of}
 use Rattle.sh_printer.specs.Weights.{part_weight, parts_weight, words_weight, value_weight, assigns_weight, redirects_weight, command_weight, kind_weight, branches_weight, for_words_weight, items_weight, stages_weight, pipeline_weight, links_weight, script_weight}
 
@@ -100,12 +104,31 @@ redirect_text full owed r = (fd_text r.fd ++ operator_text r.op) ++ target_text 
 abbrev pub still_owed_behind : (full : Bool) → Aimed → (owed : Text) → Text
 still_owed_behind full r owed = owed_behind full r.op (parts_open r.word) (parts_text full in_body blank r.word) owed
 
+-- the words that stand behind the redirections of a command
+abbrev pub last_words_of : shape.Kind → shape.Words
+last_words_of (shape.simple as' ws) = if words_last as' ws then ws else shape.no_word
+last_words_of (shape.group s) = shape.no_word
+last_words_of (shape.subshell s) = shape.no_word
+last_words_of (shape.branching bs o) = shape.no_word
+last_words_of (shape.loop until t b) = shape.no_word
+last_words_of (shape.walk n ws b) = shape.no_word
+last_words_of (shape.cases w is) = shape.no_word
+last_words_of (shape.function n c) = shape.no_word
+
+-- what stands behind redirections, by the bodies that are still to come
+abbrev pub tail_text : (full : Bool) → Tail → (owed : Text) → Text
+tail_text full t = last_words_text full (view_end t.end) (words_of (map view_word t.words.now))
+
+abbrev pub tail_weight : Tail → ℕ
+tail_weight t = words_weight (words_of (map view_word t.words.now))
+
 unfoldable pub word_text : (full : Bool) → WordPiece → Text
 word_text full (words.Words ws behind) = words_text full behind (words_of (map view_word ws.now))
 word_text full (words.Word w) = parts_text full in_word blank (view_word w.now)
 word_text full (words.Parts ps context owed) = parts_text full (view_context context) (gap (owed_of full owed.now)) (parts_of (map view_part ps.now))
 word_text full (words.Part p place) = part_text full (view_context place.context) (gap (owed_of full place.owed.now)) place.more (view_part p.now)
-word_text full (words.Redirects all done behind end) = redirects_text full behind (view_end end) (owed_of full (take done all.now)) (redirects_of (map view_redirect (drop done all.now)))
+word_text full (words.Redirects all done behind tail) = redirects_text full behind (tail_text full tail) (owed_of full (take done all.now)) (redirects_of (map view_redirect (drop done all.now)))
+word_text full (words.Last tail owed) = tail_text full tail (owed_of full owed.now)
 word_text full (words.Redirect r owed) = redirect_text full (owed_of full owed.now) (view_redirect r.now)
 word_text full (words.Assigns as' behind) = assigns_text full behind (assigns_of (map view_assign as'.now))
 word_text full (words.Assign a) = ((view_assign a.now).0 ++ 61 ∷ []) ++ value_text full (view_assign a.now).1
@@ -115,7 +138,8 @@ word_weight (words.Words ws behind) = words_weight (words_of (map view_word ws.n
 word_weight (words.Word w) = parts_weight (view_word w.now) + 2
 word_weight (words.Parts ps context owed) = parts_weight (parts_of (map view_part ps.now)) + owed_weight owed.now + 1
 word_weight (words.Part p place) = part_weight (view_part p.now) + owed_weight place.owed.now + 2
-word_weight (words.Redirects all done behind end) = owed_weight all.now + owed_weight (drop done all.now) + 3
+word_weight (words.Redirects all done behind tail) = owed_weight all.now + owed_weight (drop done all.now) + tail_weight tail + 4
+word_weight (words.Last tail owed) = tail_weight tail + owed_weight owed.now + 3
 word_weight (words.Redirect r owed) = parts_weight (view_redirect r.now).word + owed_weight owed.now + 15
 word_weight (words.Assigns as' behind) = assigns_weight (assigns_of (map view_assign as'.now)) + 1
 word_weight (words.Assign a) = value_weight (view_assign a.now).1 + 1
@@ -176,7 +200,7 @@ abbrev pub sum_operand_text : (operand : ℕ → Text) → SumPiece → Text
 sum_operand_text operand (sums.Expr e wanted) = levelled_text operand e.now wanted
 sum_operand_text operand (sums.Bare e) = levelled_text operand e.now 0
 sum_operand_text operand (sums.Closed e) = 40 ∷ levelled_text operand e.now 0 ++ 41 ∷ []
-sum_operand_text operand (sums.Links e count bits) = operators_text operand e.now count
+sum_operand_text operand (sums.Links e count bits) = halves_text operand bits e.now count
 sum_operand_text operand (sums.Behind mark e wanted) = (32 ∷ mark.now ++ 32 ∷ []) ++ levelled_text operand e.now wanted
 sum_operand_text operand (sums.Indexed e) = levelled_text operand e.now 0 ++ 93 ∷ []
 
@@ -236,3 +260,11 @@ AsPart place p split = Comes (λ full. part_text full (view_context place.contex
 -- the pieces of a command of this kind, of which the last one stands behind it
 abbrev pub AsKind : Ended → Piece → shape.Kind → Split → Type 0
 AsKind end tail k split = Comes (λ full. kind_text full (view_end end) (piece_text full tail) k) (kind_weight k + piece_weight tail) split
+
+-- the weight of an expression of so many nodes
+abbrev pub sums_weight : Operands → (nodes : ℕ) → ℕ
+sums_weight o n = 200 * n + 100 + words_weight (words_of (map view_word o.words.now)) + owed_weight o.owed.now
+
+-- the pieces of an expression that was opened once
+abbrev pub AsLayer : Operands → Expr-F Expr → Split → Type 0
+AsLayer o x split = Comes (λ full. expr_step (operand_of full o) (map-Expr Expr Levelled (levelled_text (operand_of full o)) x) 0) (sums_weight o (layer_nodes x)) split

@@ -41,7 +41,7 @@ abbrev mutual
   redirects_weight (redirect fd op w rs) = 20 + (parts_weight w + redirects_weight rs)
 
   pub command_weight : shape.Command → ℕ
-  command_weight (command k rs) = 20 + (kind_weight k + (redirects_weight rs + redirects_weight rs))
+  command_weight (command k rs) = 20 + (kind_weight k + kind_weight k + (redirects_weight rs + redirects_weight rs))
 
   pub kind_weight : shape.Kind → ℕ
   kind_weight (simple as' ws) = 20 + (assigns_weight as' + words_weight ws)

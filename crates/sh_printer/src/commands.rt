@@ -1,17 +1,18 @@
 //! Commands and lists, taken apart.
 
-ghost use Rattle.std.specs.Prelude.{◌≡◌, ◌≤◌, ◌<◌, ◌+◌, ◌++◌, map, option_map, codes, Bool};
+ghost use Rattle.std.specs.Prelude.{◌≡◌, ◌≤◌, ◌<◌, ◌+◌, ◌++◌, ◌||◌, ◌&&◌, not, [], map, option_map, codes, Bool, if◌then◌else◌};
 ghost use Rattle.sh_grammar.specs.Shape as shape;
 ghost use Rattle.sh_printer.specs.Codes.{view_end};
 ghost use Rattle.sh_printer.specs.Pieces.{Comes, Apart, AsKind, piece_text, piece_weight, branch_views, link_views, pipeline_mark};
-ghost use Rattle.sh_printing.specs.Printing.{has_assign, has_word, is_something, words_text, command_text, list_text, otherwise_text, for_words_text, stage_end, link_end};
+ghost use Rattle.sh_printing.specs.Printing.{has_assign, is_something, has_word, words_last, words_text, command_text, list_text, otherwise_text, for_words_text, stage_end, link_end};
 ghost use Rattle.sh_printer.specs.Weights.{words_weight, command_weight, script_weight, otherwise_weight, for_words_weight};
 ghost use Rattle.sh_syntax.specs.View.{view, view_kind, view_command, view_case_item, view_function, view_item, view_pipeline, view_word, branches_of, otherwise_of, for_words_of, case_items_of, items_of, links_of, stages_of, words_of, assigns_of, view_assign};
 ghost use Rattle.sh_printer.specs.declared.pieces.Node.TheVariants as node;
 ghost use Rattle.sh_printer.specs.declared.pieces.CommandPiece.TheVariants as commands;
 
 use crate::marks::{End, joint_end, loop_key};
-use crate::pieces::{CommandPiece, Leaf, Node, Piece, Split, WordPiece};
+use crate::last::{last_words, words_last};
+use crate::pieces::{CommandPiece, Leaf, Node, Piece, Split, Tail, WordPiece};
 use sh_syntax::{
     Assign, CaseItem, Command, CommandKind, Function, Item, Joint, Name, Pipeline, Script, Word,
 };
@@ -56,12 +57,28 @@ fn has_words(words: &[Word]) -> bool
     }
 }
 
-/// The words behind the assignments of a simple command.
+/// The words behind the assignments of a simple command, where they stand before its redirections.
 fn simple_words<'a>(assigns: &'a [Assign], words: &'a [Word]) -> Piece<'a>
-    ensures text { (full : Bool) → piece_text full result ≡ words_text full (has_assign (assigns_of (map view_assign assigns.now))) (words_of (map view_word words.now)) }
-    ensures weight { piece_weight result ≡ words_weight (words_of (map view_word words.now)) + 1 }
+    ensures text { (full : Bool) → piece_text full result ≡ (if words_last (assigns_of (map view_assign assigns.now)) (words_of (map view_word words.now)) then [] else words_text full (has_assign (assigns_of (map view_assign assigns.now))) (words_of (map view_word words.now))) }
+    ensures weight { piece_weight result ≤ words_weight (words_of (map view_word words.now)) + 1 }
 {
+    if words_last(assigns, words) {
+        return Piece::Leaf(Leaf::Bytes(b""));
+    }
     Piece::Node(Node::Word(WordPiece::Words(words, has_assigns(assigns))))
+}
+
+/// Whether a simple command has bytes before its redirections.
+fn has_front(assigns: &[Assign], words: &[Word]) -> bool
+    ensures { result ≡ (has_assign (assigns_of (map view_assign assigns.now)) || (has_word (words_of (map view_word words.now)) && not (words_last (assigns_of (map view_assign assigns.now)) (words_of (map view_word words.now))))) }
+{
+    if has_assigns(assigns) {
+        return true;
+    }
+    if has_words(words) {
+        return !words_last(assigns, words);
+    }
+    false
 }
 
 /// Whether the command has bytes before its redirections.
@@ -72,7 +89,7 @@ fn is_something(kind: &CommandKind) -> bool
         CommandKind::Simple { assigns, words } => {
             let assigns = assigns.as_slice();
             let words = words.as_slice();
-            has_assigns(assigns) || has_words(words)
+            has_front(assigns, words)
         }
         CommandKind::Group(_) => true,
         CommandKind::Subshell(_) => true,
@@ -104,8 +121,9 @@ fn whole_command_apart(command: &Command, end: End) -> Split<'_>
 {
     let redirects = command.redirects.as_slice();
     let behind = is_something(&command.kind);
-    let tail = Piece::Node(Node::Word(WordPiece::Redirects(redirects, 0, behind, end)));
-    kind_apart(&command.kind, end, tail)
+    let words = last_words(&command.kind);
+    let tail = WordPiece::Redirects(redirects, 0, behind, Tail { words, end });
+    kind_apart(&command.kind, end, Piece::Node(Node::Word(tail)))
 }
 
 /// A command, and its redirections; those of a function's definition stand at its body.

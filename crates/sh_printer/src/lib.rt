@@ -7,6 +7,7 @@
 
 mod commands;
 mod context;
+mod last;
 mod leaves;
 mod marks;
 mod names;

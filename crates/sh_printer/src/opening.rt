@@ -80,6 +80,31 @@ pub fn owed_behind<'a>(owed: &'a [Redirect], part: &Part) -> &'a [Redirect]
     &[]
 }
 
+/// The redirections whose bodies are still to come behind a word.
+pub fn owed_behind_word<'a>(owed: &'a [Redirect], word: &Word) -> &'a [Redirect]
+    ensures { result.now ≡ still_owed (parts_open (view_word word.now)) owed.now }
+{
+    let parts = word.parts.as_slice();
+    let opens = parts_open(parts);
+    still_owed(opens, owed)
+}
+
+fn still_owed(opens: bool, owed: &[Redirect]) -> &[Redirect]
+    ensures { result.now ≡ still_owed opens owed.now }
+{
+    if opens { &[] } else { owed }
+}
+
+/// The redirections whose bodies are still to come behind words.
+pub fn owed_behind_words<'a>(owed: &'a [Redirect], words: &[Word]) -> &'a [Redirect]
+    ensures { result.now ≡ still_owed (words_open (words_of (map view_word words.now))) owed.now }
+{
+    if owed.is_empty() || !words_open(words) {
+        return owed;
+    }
+    &[]
+}
+
 /// A newline stood in the redirection's word.
 pub fn redirect_opens(redirect: &Redirect) -> bool
     ensures { result ≡ (not (is_here (view_redirect redirect.now).op) && parts_open (view_redirect redirect.now).word) }

@@ -56,11 +56,19 @@ pub enum WordPiece<'a> {
     Word(&'a Word),
     Parts(&'a [Part], Context, &'a [Redirect]),
     Part(&'a Part, Place<'a>),
-    /// Redirections, of which so many stand already, up to what ends the command.
-    Redirects(&'a [Redirect], usize, bool, End),
+    /// Redirections, of which so many stand already, and what stands behind them.
+    Redirects(&'a [Redirect], usize, bool, Tail<'a>),
+    Last(Tail<'a>, &'a [Redirect]),
     Redirect(&'a Redirect, &'a [Redirect]),
     Assigns(&'a [Assign], bool),
     Assign(&'a Assign),
+}
+
+/// What stands behind the redirections of a command: words, and what ends the command.
+#[derive(Clone, Copy)]
+pub struct Tail<'a> {
+    pub words: &'a [Word],
+    pub end: End,
 }
 
 /// Where a part stands, whether more of a name follows it, and which bodies are still to come.

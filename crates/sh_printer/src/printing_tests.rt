@@ -286,7 +286,7 @@ fn arithmetic(rt: HostRuntime) -> Result<(), Fail> {
         Boxed::new(alloc, negative)?,
     );
     let operands = one(alloc, word(one(alloc, expanded(alloc, b"n")?)?))?;
-    let arith = crate::Arith {
+    let arith = sh_syntax::Arith {
         expr,
         operands,
         span: NOWHERE,
@@ -340,7 +340,7 @@ fn long_sum(alloc: Global, count: usize) -> Result<Expr, span_text::Memory> {
 
 /// A command of the word `$((..))`.
 fn counting(alloc: Global, expr: Expr) -> Result<Script, span_text::Memory> {
-    let arith = crate::Arith {
+    let arith = sh_syntax::Arith {
         expr,
         operands: List::new(alloc),
         span: NOWHERE,

@@ -5,7 +5,7 @@ ghost use Rattle.sh_grammar.specs.Bytes.{in_body, in_word};
 ghost use Rattle.sh_printer.specs.Codes.{view_end};
 ghost use Rattle.sh_printing.specs.Marks.{blank, gap, ended, next};
 ghost use Rattle.sh_printer.specs.Owed.{owed_text};
-ghost use Rattle.sh_printer.specs.Pieces.{Comes, Apart, piece_text, piece_weight, owed_weight, owed_of, still_owed_behind, delimiter_of, operator_text, target_text};
+ghost use Rattle.sh_printer.specs.Pieces.{Comes, Apart, piece_text, piece_weight, owed_weight, owed_of, still_owed_behind, tail_text, tail_weight, delimiter_of, operator_text, target_text};
 ghost use Rattle.sh_printing.specs.Printing.{parts_text, redirects_text};
 ghost use Rattle.sh_printer.specs.Weights.{parts_weight};
 ghost use Rattle.sh_syntax.specs.View.{view_operator, view_redirect, redirects_of};
@@ -15,8 +15,8 @@ ghost use Rattle.sh_printer.specs.declared.pieces.WordPiece.TheVariants as word;
 use crate::context::Context;
 use crate::leaves::lead;
 use crate::marks::End;
-use crate::opening::{has_body, redirect_opens};
-use crate::pieces::{Leaf, Node, Piece, Split, WordPiece};
+use crate::opening::{has_body, owed_behind_word, redirect_opens};
+use crate::pieces::{Leaf, Node, Piece, Split, Tail, WordPiece};
 use sh_syntax::{Redirect, RedirectOp};
 
 /// A blank, or a newline and the bodies that are still to come.
@@ -31,33 +31,67 @@ pub fn gap(owed: &[Redirect]) -> Piece<'_>
 }
 
 /// The next redirection, and those behind it.
-pub fn redirects_apart(all: &[Redirect], done: usize, behind: bool, end: End) -> Split<'_>
-    ensures { Apart (node.Word (word.Redirects all.entry done behind end)) result }
+pub fn redirects_apart<'a>(
+    all: &'a [Redirect],
+    done: usize,
+    behind: bool,
+    tail: Tail<'a>,
+) -> Split<'a>
+    ensures { Apart (node.Word (word.Redirects all.entry done behind tail.entry)) result }
 {
     if done >= all.len() {
-        return end_apart(end, all);
+        return Split {
+            first: Piece::Leaf(Leaf::Bytes(b"")),
+            second: Piece::Leaf(Leaf::Bytes(b"")),
+            rest: Piece::Node(Node::Word(WordPiece::Last(tail, all))),
+        };
     }
     let (owed, _) = all.split_at(done);
     let next = &all[done];
     Split {
         first: Piece::Leaf(Leaf::Bytes(lead(behind))),
         second: Piece::Node(Node::Word(WordPiece::Redirect(next, owed))),
-        rest: later_redirects(all, done, next, end),
+        rest: later_redirects(all, done, next, tail),
     }
 }
 
 /// The redirections behind the next one. Where a newline stood in its word, the bodies before it have come.
-fn later_redirects<'a>(all: &'a [Redirect], done: usize, next: &Redirect, end: End) -> Piece<'a>
+fn later_redirects<'a>(
+    all: &'a [Redirect],
+    done: usize,
+    next: &Redirect,
+    tail: Tail<'a>,
+) -> Piece<'a>
     requires within { done < length all.now }
     requires next { next.now ≡ get_or all.now done next.now }
-    ensures text { (full : Bool) → piece_text full result ≡ redirects_text full true (view_end end) (still_owed_behind full (view_redirect next.now) (owed_of full (take done all.now))) (redirects_of (map view_redirect (drop (done + 1) all.now))) }
-    ensures weight { piece_weight result < owed_weight all.now + owed_weight (drop done all.now) + 3 }
+    ensures text { (full : Bool) → piece_text full result ≡ redirects_text full true (tail_text full tail.entry) (still_owed_behind full (view_redirect next.now) (owed_of full (take done all.now))) (redirects_of (map view_redirect (drop (done + 1) all.now))) }
+    ensures weight { piece_weight result < owed_weight all.now + owed_weight (drop done all.now) + tail_weight tail.entry + 4 }
 {
     if redirect_opens(next) {
         let (_, rest) = all.split_at(done + 1);
-        return Piece::Node(Node::Word(WordPiece::Redirects(rest, 0, true, end)));
+        return Piece::Node(Node::Word(WordPiece::Redirects(rest, 0, true, tail)));
     }
-    Piece::Node(Node::Word(WordPiece::Redirects(all, done + 1, true, end)))
+    Piece::Node(Node::Word(WordPiece::Redirects(all, done + 1, true, tail)))
+}
+
+/// The first of the words behind redirections, and those behind it; or what ends the command.
+pub fn last_apart<'a>(tail: Tail<'a>, owed: &'a [Redirect]) -> Split<'a>
+    ensures { Apart (node.Word (word.Last tail.entry owed.entry)) result }
+{
+    match tail.words {
+        [] => end_apart(tail.end, owed),
+        [first, ..] => {
+            let (_, words) = tail.words.split_at(1);
+            let end = tail.end;
+            let parts = first.parts.as_slice();
+            let later = owed_behind_word(owed, first);
+            Split {
+                first: Piece::Leaf(Leaf::Bytes(b" ")),
+                second: Piece::Node(Node::Word(WordPiece::Parts(parts, Context::Word, owed))),
+                rest: Piece::Node(Node::Word(WordPiece::Last(Tail { words, end }, later))),
+            }
+        }
+    }
 }
 
 /// What ends a command, and the bodies that are still to come.

@@ -20,7 +20,7 @@ use crate::opening::{is_continued, owed_behind};
 use crate::pieces::{
     CommandPiece, Leaf, Node, Operands, Piece, Place, Split, SumPiece, WordPiece,
 };
-use crate::redirects::{gap, redirect_apart, redirects_apart};
+use crate::redirects::{gap, last_apart, redirect_apart, redirects_apart};
 use sh_syntax::{Arith, Assign, AssignValue, Param, ParamOp, Part, PartKind, Redirect, Script, Word};
 
 /// The pieces of words, assignments or redirections.
@@ -32,7 +32,8 @@ pub fn word_apart(piece: WordPiece<'_>) -> Split<'_>
         WordPiece::Word(word) => whole_word_apart(word),
         WordPiece::Parts(parts, context, owed) => parts_apart(parts, context, owed),
         WordPiece::Part(part, place) => part_apart(part, place),
-        WordPiece::Redirects(all, done, behind, end) => redirects_apart(all, done, behind, end),
+        WordPiece::Redirects(all, done, behind, tail) => redirects_apart(all, done, behind, tail),
+        WordPiece::Last(tail, owed) => last_apart(tail, owed),
         WordPiece::Redirect(redirect, owed) => redirect_apart(redirect, owed),
         WordPiece::Assigns(assigns, behind) => assigns_apart(assigns, behind),
         WordPiece::Assign(assign) => assign_apart(assign),

@@ -1,5 +1,5 @@
 -- The text of an arithmetic expression (POSIX 2.6.4), with parentheses where the operators' order asks for them.
-use Rattle.std.specs.Prelude.{ℕ, zero, suc, ◌+◌, nat_le, [], ◌∷◌, ◌++◌, Option, Some, None, codes, if◌then◌else◌}
+use Rattle.std.specs.Prelude.{ℕ, ◌+◌, nat_le, [], ◌∷◌, ◌++◌, Option, Some, None, codes, if◌then◌else◌}
 use Rattle.std.specs.Fmt.{signed_decimal}
 use Rattle.span_text.specs.declared.expr.UnOp.{UnOp}
 use Rattle.span_text.specs.declared.expr.UnOp.TheVariants.{Plus, Minus, Not, Complement}
@@ -91,37 +91,3 @@ levelled_text operand = fold-Expr Levelled (expr_step operand)
 
 abbrev pub expr_text : (ℕ → Text) → Expr → Text
 expr_text operand e = fold-Expr Levelled (expr_step operand) e 0
-
--- ---- a chain of operators between operands, each of whose first operands stands without parentheses
-
--- the text of an expression, and that of so many operators of its chain, the last ones, with what is behind each
-pub record Chained : Type 0 where
-  pub text : Levelled
-  pub operators : ℕ → Text
-
-abbrev more_operators : (ℕ → Text) → Text → ℕ → Text
-more_operators before behind zero = []
-more_operators before behind (suc n) = before n ++ behind
-
-abbrev chained : Infix → Text → Chained → Chained → Chained
-chained i op a b = record { text = infix_text i op a.text b.text; operators = more_operators a.operators (32 ∷ op ++ 32 ∷ b.text (level i + 1)) }
-
-abbrev unchained : Levelled → Chained
-unchained text = record { text = text; operators = λ n. [] }
-
-abbrev chain_step : (ℕ → Text) → Expr-F Chained → Chained
-chain_step operand (open_expr.Constant n) = unchained (at_level 15 (signed_decimal n))
-chain_step operand (open_expr.Name text) = unchained (at_level 15 text)
-chain_step operand (open_expr.Operand n) = unchained (at_level 15 (operand n))
-chain_step operand (open_expr.Member text a) = unchained (at_level 15 (text ++ 91 ∷ a.text 0 ++ 93 ∷ []))
-chain_step operand (open_expr.Unary op a) = unchained (at_level 14 (unary_text op ++ 32 ∷ a.text 14))
-chain_step operand (open_expr.Step op a) = unchained (at_level 14 (before_target op ++ a.text 0 ++ behind_target op))
-chain_step operand (open_expr.Binary op a b) = chained (sign.Plain op) (binary_text op) a b
-chain_step operand (open_expr.And a b) = chained sign.And (codes "&&") a b
-chain_step operand (open_expr.Or a b) = chained sign.Or (codes "||") a b
-chain_step operand (open_expr.Comma a b) = chained sign.Comma (codes ",") a b
-chain_step operand (open_expr.Assign a op b) = unchained (at_level 1 (between (a.text 0) (assigned_text op) (b.text 1)))
-chain_step operand (open_expr.Choose a b c) = unchained (at_level 2 (between (between (a.text 3) (codes "?") (b.text 0)) (codes ":") (c.text 2)))
-
-abbrev pub operators_text : (ℕ → Text) → Expr → ℕ → Text
-operators_text operand e = (fold-Expr Chained (chain_step operand) e).operators

@@ -1,16 +1,9 @@
-use Rattle.std.proofs.Common.{refl, sym, ◌∙◌}
+use Rattle.std.proofs.Common.{refl}
 use Rattle.sh_syntax.proofs.Views.{simple_is, group_is, subshell_is, if_is, loop_is, for_is, case_is, function_kind_is}
 use Rattle.sh_printer.proofs.commands.is_something.Goals as goal
 
-pub returns-then-has_assigns : goal.returns-then-has_assigns
-returns-then-has_assigns c =
-    let h = sym (rw c.as_slice-assigns.ensures at c.has_assigns.ensures) ∙ c.if-has_assigns.true in
-    rw (c.in-Simple.is, simple_is c.in-Simple.assigns c.in-Simple.words, h) c.if-has_assigns.true
-
-pub returns-else-has_assigns : goal.returns-else-has_assigns
-returns-else-has_assigns c =
-    let h = sym (rw c.as_slice-assigns.ensures at c.has_assigns.ensures) ∙ c.if-has_assigns.false in
-    rw (c.in-Simple.is, simple_is c.in-Simple.assigns c.in-Simple.words, h) (rw c.as_slice-words.ensures at c.has_words.ensures)
+pub returns-in-Simple : goal.returns-in-Simple
+returns-in-Simple c = rw (c.in-Simple.is, simple_is c.in-Simple.assigns c.in-Simple.words) (rw (c.as_slice-assigns.ensures, c.as_slice-words.ensures) at c.has_front.ensures)
 
 pub returns-in-Group : goal.returns-in-Group
 returns-in-Group c = rw (c.in-Group.is, group_is c.in-Group.field-0) refl
