@@ -1,12 +1,14 @@
 //! A script as text: one complete command a line.
 
-ghost use Rattle.std.specs.Prelude.{◌≡◌, ◌≤◌, ◌+◌, ◌-◌, ◌^◌, ◌∷◌, max, min, IfOk, IsOk, [], map, true, false, Bool};
+ghost use Rattle.std.specs.Prelude.{◌≡◌, ◌<◌, ◌≤◌, ◌+◌, ◌-◌, ◌^◌, ◌∷◌, length, max, min, IfOk, IsOk, [], map, true, false, Bool};
 ghost use Rattle.std.specs.Fmt.{decimal};
 ghost use Rattle.span_text.specs.Streams.{Wrote};
+ghost use Rattle.sh_grammar.specs.Spelling.{Reads};
 ghost use Rattle.sh_printer.specs.Covers.{Covers, CoversLines, ends_line};
 ghost use Rattle.sh_printing.specs.Delimiters.{delimiter, free_from, numbered, has_line, tries};
 ghost use Rattle.sh_printer.specs.Owed.{body_text};
 ghost use Rattle.sh_printer.specs.Pieces.{Apart, delimiter_of, here_text, here_start, here_end, inner_text, owed_of, piece_text, piece_weight};
+ghost use Rattle.sh_printing.specs.Printable.{script_printable};
 ghost use Rattle.sh_printing.specs.Printing.{printed};
 ghost use Rattle.sh_printer.specs.Search.{Put};
 ghost use Rattle.sh_syntax.specs.View.{view, view_part, view_redirect, parts_of};
@@ -281,7 +283,9 @@ fn has_line<K: Sink>(number: u64, body: &[Part], out: &mut K) -> Result<bool, Fa
 /// Writes the script as text, one complete command a line (POSIX 2.10). It allocates nothing. After a failure the sink
 /// has taken a front of the text that isn't all.
 pub fn print<K: Sink>(script: &Script, out: &mut K) -> Result<(), Failed>
-    ensures { Wrote (K.held out.old) (K.held out.new) (K.faults out.old) (K.faults out.new) result (printed (view script.now)) }
+    ensures wrote { Wrote (K.held out.old) (K.held out.new) (K.faults out.old) (K.faults out.new) result (printed (view script.now)) }
+    // The text of a script that can be printed spells it, whatever its texts hold.
+    ensures reads_back { script_printable (view script.now) ≡ true → length (printed (view script.now)) < 2 ^ 32 → Reads (printed (view script.now)) (view script.now) }
 {
     let mut search = writing();
     let items = script.items.as_slice();
