@@ -203,6 +203,21 @@ fn assignments_and_redirections(rt: HostRuntime) -> Result<(), Fail> {
     )
 }
 
+/// Behind `>x` the word `if` is no reserved word.
+#[test]
+fn words_behind_redirections(rt: HostRuntime) -> Result<(), Fail> {
+    let alloc = rt.alloc();
+    let redirects = one(alloc, to_file(alloc, b"x")?)?;
+    prints(&rt, alloc, script(alloc, aimed(alloc, b"if", redirects)?)?, b">x if\n")?;
+    let redirects = two(alloc, literal(alloc, b"b\n")?, to_file(alloc, b"x")?)?;
+    prints(
+        &rt,
+        alloc,
+        script(alloc, aimed(alloc, b"fi", redirects)?)?,
+        b"<<'E0' >x fi\nb\nE0\n",
+    )
+}
+
 #[test]
 fn bodies_stand_behind_the_next_newline(rt: HostRuntime) -> Result<(), Fail> {
     let alloc = rt.alloc();
