@@ -2,7 +2,9 @@
 
 use crate::building::*;
 use crate::print;
-use sh_syntax::{Assign, CommandKind, FillTest, Joint, Param, ParamOp, PartKind, RedirectOp, Script};
+use sh_syntax::{
+    Assign, CommandKind, FillTest, Joint, Param, ParamOp, PartKind, RedirectOp, Script,
+};
 use span_text::{BinOp, Boxed, Expr, List, MemorySink};
 use std::alloc::Global;
 use std::process::Abort;
@@ -17,7 +19,12 @@ fn prints(rt: &impl Abort, alloc: Global, script: Script, text: &[u8]) -> Result
 }
 
 /// A command of these parts alone, behind `a`.
-fn prints_part(rt: &impl Abort, alloc: Global, part: sh_syntax::Part, text: &[u8]) -> Result<(), Fail> {
+fn prints_part(
+    rt: &impl Abort,
+    alloc: Global,
+    part: sh_syntax::Part,
+    text: &[u8],
+) -> Result<(), Fail> {
     let words = two(alloc, plain_word(alloc, b"a")?, word(one(alloc, part)?))?;
     prints(rt, alloc, script(alloc, call(alloc, words))?, text)
 }
@@ -208,7 +215,12 @@ fn assignments_and_redirections(rt: HostRuntime) -> Result<(), Fail> {
 fn words_behind_redirections(rt: HostRuntime) -> Result<(), Fail> {
     let alloc = rt.alloc();
     let redirects = one(alloc, to_file(alloc, b"x")?)?;
-    prints(&rt, alloc, script(alloc, aimed(alloc, b"if", redirects)?)?, b">x if\n")?;
+    prints(
+        &rt,
+        alloc,
+        script(alloc, aimed(alloc, b"if", redirects)?)?,
+        b">x if\n",
+    )?;
     let redirects = two(alloc, literal(alloc, b"b\n")?, to_file(alloc, b"x")?)?;
     prints(
         &rt,
@@ -367,10 +379,18 @@ fn counting(alloc: Global, expr: Expr) -> Result<Script, span_text::Memory> {
 #[test]
 fn long_chains_of_operators(rt: HostRuntime) -> Result<(), Fail> {
     let alloc = rt.alloc();
-    prints(&rt, alloc, counting(alloc, long_sum(alloc, 4)?)?, b"$((1 + 1 + 1 + 1 + 1))\n")?;
+    prints(
+        &rt,
+        alloc,
+        counting(alloc, long_sum(alloc, 4)?)?,
+        b"$((1 + 1 + 1 + 1 + 1))\n",
+    )?;
     let mut out = MemorySink::new(alloc, 1, List::new(alloc));
     out.reserve(100000)?;
-    assert_eq!(rt; print(&counting(alloc, long_sum(alloc, 20000)?)?, &mut out), Ok(()));
+    assert_eq!(rt;
+        print(&counting(alloc, long_sum(alloc, 20000)?)?, &mut out),
+        Ok(())
+    );
     assert_eq!(rt; out.held().len(), 80007);
     Ok(())
 }

@@ -24,7 +24,12 @@ fn script_of(rt: &impl Abort, alloc: Global, text: &[u8]) -> Result<Script, Fail
 }
 
 /// What is printed of a script, which has less than `room` bytes.
-fn printed(rt: &impl Abort, alloc: Global, script: &Script, room: usize) -> Result<MemorySink, Fail> {
+fn printed(
+    rt: &impl Abort,
+    alloc: Global,
+    script: &Script,
+    room: usize,
+) -> Result<MemorySink, Fail> {
     let mut out = MemorySink::new(alloc, 4096, List::new(alloc));
     out.reserve(room)?;
     assert_eq!(rt; print(script, &mut out), Ok(()));

@@ -71,7 +71,7 @@ fn refused_at(rt: &impl Abort, alloc: Global, text: &Text) -> Option<u32> {
 
 #[test]
 fn a_thousand_levels_are_read_and_no_more(rt: HostRuntime) -> Result<(), Fail> {
-    let rows: [Row; 14] = [
+    let rows: [Row; 13] = [
         (b"{ ", b"a", b"; }"),
         (b"( ", b"a", b" )"),
         (b"if a; then ", b"b", b"; fi"),
@@ -83,7 +83,6 @@ fn a_thousand_levels_are_read_and_no_more(rt: HostRuntime) -> Result<(), Fail> {
         (b"f() { ", b"a", b"; }"),
         (b"$(", b"a", b")"),
         (b"\"$(", b"a", b")\""),
-        (b"case $(", b"a", b") in b) c;; esac"),
         (b"${a-", b"b", b"}"),
         (b"${a%", b"b", b"}"),
     ];

@@ -81,5 +81,10 @@ fn a_thousand_levels(rt: HostRuntime) -> Result<(), Fail> {
     let script = script_of(&rt, rt.alloc(), text.bytes())?;
     let out = printed(&rt, rt.alloc(), &script, 10_000)?;
     assert_eq!(&rt; out.held(), text.bytes());
-    are_alike(&rt, rt.alloc(), &script, &script_of(&rt, rt.alloc(), out.held())?)
+    are_alike(
+        &rt,
+        rt.alloc(),
+        &script,
+        &script_of(&rt, rt.alloc(), out.held())?,
+    )
 }

@@ -25,7 +25,10 @@ fn here_documents(rt: HostRuntime) -> Result<(), Fail> {
             (b"a <<X >$(b\nx\nX\n)", b"a <<E0 >$(\nx\nE0\nb; )\n"),
             (b"<<X if\nx\nX\n", b"<<E0 if\nx\nE0\n"),
             (b"<<X if $(b\nx\nX\n)", b"<<E0 if $(\nx\nE0\nb; )\n"),
-            (b"a <<X\n$(b <<Y\ny\nY\n)\nX\n", b"a <<E1\n$( b <<E0\ny\nE0\n)\nE1\n"),
+            (
+                b"a <<X\n$(b <<Y\ny\nY\n)\nX\n",
+                b"a <<E1\n$( b <<E0\ny\nE0\n)\nE1\n",
+            ),
         ],
     )
 }
@@ -52,5 +55,10 @@ fn taken_delimiters(rt: HostRuntime) -> Result<(), Fail> {
     let script = script_of(&rt, rt.alloc(), text.bytes())?;
     let out = printed(&rt, rt.alloc(), &script, 1000)?;
     assert_eq!(&rt; out.held(), wanted.bytes());
-    are_alike(&rt, rt.alloc(), &script, &script_of(&rt, rt.alloc(), out.held())?)
+    are_alike(
+        &rt,
+        rt.alloc(),
+        &script,
+        &script_of(&rt, rt.alloc(), out.held())?,
+    )
 }

@@ -120,5 +120,10 @@ fn every_byte(rt: HostRuntime) -> Result<(), Fail> {
     let script = script_of(&rt, rt.alloc(), text.bytes())?;
     let out = printed(&rt, rt.alloc(), &script, 1000)?;
     assert_eq!(&rt; out.held(), text.bytes());
-    are_alike(&rt, rt.alloc(), &script, &script_of(&rt, rt.alloc(), out.held())?)
+    are_alike(
+        &rt,
+        rt.alloc(),
+        &script,
+        &script_of(&rt, rt.alloc(), out.held())?,
+    )
 }

@@ -14,6 +14,7 @@ returns-in-None-clause-ends c = λ more. sym (ap has_first c.loop-count.invarian
 
 pub loop-count-preserved : goal.loop-count-preserved
 loop-count-preserved c =
-    let first = sym (c.in-Some.ensures) in
-    ( further c.loop-count.count c.args.expr.now c.loop-count.now.now c.in-Some.first.now c.loop-count.invariant.0 (sym (ap (λ (o : Option Expr). next_by c.loop-count.now.now o) first))
-    , still_chained c.loop-count.count c.args.expr.now c.loop-count.now.now c.loop-count.invariant.0 (ap has_first_by first) c.loop-count.invariant.1 )
+    let first = sym (c.in-Some.ensures) in (
+      further c.loop-count.count c.args.expr.now c.loop-count.now.now c.in-Some.first.now c.loop-count.invariant.0 (sym (ap (λ (o : Option Expr). next_by c.loop-count.now.now o) first)),
+      still_chained c.loop-count.count c.args.expr.now c.loop-count.now.now c.loop-count.invariant.0 (ap has_first_by first) c.loop-count.invariant.1,
+    )
