@@ -10,8 +10,8 @@ ghost use Rattle.sh_syntax.specs.View.{view, view_kind, view_command, view_case_
 ghost use Rattle.sh_printer.specs.declared.pieces.Node.TheVariants as node;
 ghost use Rattle.sh_printer.specs.declared.pieces.CommandPiece.TheVariants as commands;
 
-use crate::marks::{End, joint_end, loop_key};
 use crate::last::{last_words, words_last};
+use crate::marks::{End, joint_end, loop_key};
 use crate::pieces::{CommandPiece, Leaf, Node, Piece, Split, Tail, WordPiece};
 use sh_syntax::{
     Assign, CaseItem, Command, CommandKind, Function, Item, Joint, Name, Pipeline, Script, Word,

@@ -13,8 +13,8 @@ use crate::context::{Context, has_single};
 use crate::marks::test_mark;
 use crate::pieces::Leaf;
 use crate::search::{Search, put};
-use sh_syntax::{FillTest, Param};
 use itoa::Buffer;
+use sh_syntax::{FillTest, Param};
 use span_text::{Failed, Sink};
 
 fn is_quote(text: &[u8]) -> bool
@@ -137,11 +137,7 @@ fn is_braced(param: &Param, more: bool) -> bool
 }
 
 #[tactic(auto, using(crate::proofs::Puts::put_then, crate::proofs::Puts::put_early))]
-fn print_length<K: Sink>(
-    param: &Param,
-    search: &mut Search<'_>,
-    out: &mut K,
-) -> Result<(), Failed>
+fn print_length<K: Sink>(param: &Param, search: &mut Search<'_>, out: &mut K) -> Result<(), Failed>
     ensures { Put K.held K.faults search.old search.new out.old out.new result (codes "${#" ++ param_name (view_param param.now) ++ 125 ∷ []) }
 {
     put(b"${#", search, out)?;
@@ -193,11 +189,7 @@ pub fn lead(behind: bool) -> &'static [u8]
     if behind { b" " } else { b"" }
 }
 
-fn print_fd<K: Sink>(
-    fd: Option<u8>,
-    search: &mut Search<'_>,
-    out: &mut K,
-) -> Result<(), Failed>
+fn print_fd<K: Sink>(fd: Option<u8>, search: &mut Search<'_>, out: &mut K) -> Result<(), Failed>
     ensures { Put K.held K.faults search.old search.new out.old out.new result (fd_text fd) }
 {
     match fd {
@@ -214,11 +206,7 @@ fn print_constant<K: Sink>(n: i64, search: &mut Search<'_>, out: &mut K) -> Resu
 
 /// An operator between blanks.
 #[tactic(auto, using(crate::proofs::Puts::put_then, crate::proofs::Puts::put_early))]
-fn print_operator<K: Sink>(
-    mark: &[u8],
-    search: &mut Search<'_>,
-    out: &mut K,
-) -> Result<(), Failed>
+fn print_operator<K: Sink>(mark: &[u8], search: &mut Search<'_>, out: &mut K) -> Result<(), Failed>
     ensures { Put K.held K.faults search.old search.new out.old out.new result (32 ∷ mark.now ++ 32 ∷ []) }
 {
     put(b" ", search, out)?;

@@ -3,8 +3,8 @@
 use crate::context::Context;
 use crate::marks::End;
 use sh_syntax::{
-    Assign, CaseItem, Command, FillTest, Item, Joint, Name, Param, Part, Pipeline, Redirect, Script,
-    Word,
+    Assign, CaseItem, Command, FillTest, Item, Joint, Name, Param, Part, Pipeline, Redirect,
+    Script, Word,
 };
 use span_text::{Expr, List};
 

@@ -22,9 +22,9 @@ use crate::names::{NAME_SIZE, numbered};
 use crate::pieces::{CommandPiece, Node, Piece, Split, WordPiece};
 use crate::search::{Search, has_found, is_next, put, seeking, writing};
 use crate::sums::sum_apart;
-use sh_syntax::{Part, Redirect, Script};
 use crate::words::word_apart;
 use itoa::Buffer;
+use sh_syntax::{Part, Redirect, Script};
 use span_text::{Failed, Sink};
 
 /// The pieces of a node.

@@ -273,12 +273,7 @@ fn step_apart<'a>(op: StepOp, target: &'a Expr, operands: Operands<'a>) -> Split
 }
 
 /// An operator between operands, of which this is the first.
-fn infix_apart<'a>(
-    expr: &'a Expr,
-    first: &'a Expr,
-    wanted: u8,
-    operands: Operands<'a>,
-) -> Split<'a>
+fn infix_apart<'a>(expr: &'a Expr, first: &'a Expr, wanted: u8, operands: Operands<'a>) -> Split<'a>
     requires { nodes first.now < nodes expr.now }
     ensures { Comes (λ full. levelled_text (operand_of full operands.entry) first.now wanted ++ last_operator (operand_of full operands.entry) expr.now) (sums_weight operands.entry (nodes expr.now)) result }
 {
@@ -333,12 +328,7 @@ fn closed_apart<'a>(expr: &'a Expr, operands: Operands<'a>) -> Split<'a>
 }
 
 /// ` + b`
-fn behind_apart<'a>(
-    mark: &'a [u8],
-    expr: &'a Expr,
-    wanted: u8,
-    operands: Operands<'a>,
-) -> Split<'a>
+fn behind_apart<'a>(mark: &'a [u8], expr: &'a Expr, wanted: u8, operands: Operands<'a>) -> Split<'a>
     ensures { Apart (node.Sum (sums.Behind mark.entry expr.entry wanted) operands.entry) result }
 {
     Split {

@@ -17,11 +17,11 @@ use crate::context::{Context, fill_context, trim_context};
 use crate::leaves::lead;
 use crate::marks::trim_mark;
 use crate::opening::{is_continued, owed_behind};
-use crate::pieces::{
-    CommandPiece, Leaf, Node, Operands, Piece, Place, Split, SumPiece, WordPiece,
-};
+use crate::pieces::{CommandPiece, Leaf, Node, Operands, Piece, Place, Split, SumPiece, WordPiece};
 use crate::redirects::{gap, last_apart, redirect_apart, redirects_apart};
-use sh_syntax::{Arith, Assign, AssignValue, Param, ParamOp, Part, PartKind, Redirect, Script, Word};
+use sh_syntax::{
+    Arith, Assign, AssignValue, Param, ParamOp, Part, PartKind, Redirect, Script, Word,
+};
 
 /// The pieces of words, assignments or redirections.
 pub fn word_apart(piece: WordPiece<'_>) -> Split<'_>
