@@ -1,5 +1,5 @@
 -- The texts of an expression's pieces, put together; and an expression's pieces, from those of its layer.
-use Rattle.std.proofs.Common.{◌≡◌, ℕ, ◌≤◌, List, [], ◌∷◌, ◌++◌, refl, sym, arith, append_assoc}
+use Rattle.std.proofs.Common.{◌≡◌, [], ◌∷◌, ◌++◌, sym, arith, append_assoc}
 use Rattle.std.proofs.lemmas.List.{append-nil}
 use Rattle.span_text.specs.declared.expr.Expr.{Expr}
 use Rattle.span_text.specs.declared.expr.Expr.TheOpen.{Expr-F}
@@ -38,4 +38,4 @@ AsExpr o e split = Comes (λ full. levelled_text (operand_of full o) e 0) (sums_
 pub opened : (o : Operands) (e : Expr) (x : Expr-F Expr) (split : Split) → e ≡ roll-Expr x → AsLayer o x split → AsExpr o e split
 opened o e x split is pieces =
     coming (λ full. expr_step (operand_of full o) (map-Expr Expr Levelled (levelled_text (operand_of full o)) x) 0) (λ full. levelled_text (operand_of full o) e 0) (sums_weight o (layer_nodes x)) (sums_weight o (nodes e)) split
-      (λ full. sym (text_is (operand_of full o) e x 0 is)) (omega (arith, nodes_is e x is)) pieces
+    (λ full. sym (text_is (operand_of full o) e x 0 is)) (omega (arith, nodes_is e x is)) pieces
