@@ -1,11 +1,9 @@
 -- The bodies that are still to come, as a text.
-use Rattle.std.proofs.Common.{◌≡◌, ℕ, Bool, true, false, ◌||◌, List, [], ◌∷◌, ◌++◌, refl, sym, ap, ◌∙◌, append_assoc}
-use Rattle.std.proofs.lemmas.List.{append-nil}
+use Rattle.std.proofs.Common.{◌≡◌, Bool, true, false, ◌||◌, List, [], ◌∷◌, ◌++◌, refl, sym, ap, ◌∙◌, append_assoc}
 use Rattle.sh_grammar.specs.Bytes.{Text, in_body}
-use Rattle.sh_grammar.specs.Shape as shape
-use Rattle.sh_printing.specs.Marks.{next, ended, blank, gap, is_here, whole_body, delimiter_text}
+use Rattle.sh_printing.specs.Marks.{next, ended, blank, gap, is_here, delimiter_text}
 use Rattle.sh_printer.specs.Owed.{has_here, body_by, body_text, owed_text}
-use Rattle.sh_printing.specs.Printing.{parts_text, owed_behind}
+use Rattle.sh_printing.specs.Printing.{parts_text}
 use Rattle.sh_syntax.specs.View.{Aimed}
 
 -- a text with a newline in it is something

@@ -1,5 +1,5 @@
 -- Chains of operators: what their expressions weigh, and that a chain's text is that of its first operand and of its operators.
-use Rattle.std.proofs.Common.{◌≡◌, ℕ, ◌+◌, ◌-◌, ◌*◌, ◌/◌, ◌^◌, ◌≤◌, ◌<◌, zero, suc, Bool, true, false, List, [], ◌∷◌, ◌++◌, refl, sym, ap, ◌∙◌, arith, append_assoc}
+use Rattle.std.proofs.Common.{◌≡◌, ℕ, ◌+◌, ◌-◌, ◌*◌, ◌/◌, ◌^◌, ◌≤◌, ◌<◌, zero, suc, Bool, true, false, [], ◌∷◌, ◌++◌, refl, sym, ap, ◌∙◌, arith, append_assoc}
 use borrow.Author.Count.{below_more}
 use Rattle.std.specs.Prelude.{nat_le, Option, Some, None, codes, if◌then◌else◌}
 use Rattle.std.proofs.Math.Nat.{pow-succ'}
@@ -9,10 +9,10 @@ use Rattle.span_text.specs.declared.expr.Expr.{Expr}
 use Rattle.span_text.specs.declared.expr.Expr.TheOpen.{Expr-F}
 use Rattle.span_text.specs.declared.expr.Expr.TheOpen as layer
 use Rattle.span_text.specs.declared.expr.Expr.TheViews.{roll-Expr, out-Expr, out-roll-Expr, roll-out-Expr}
-use Rattle.span_text.specs.declared.expr.Expr.TheFolds.{fold-roll-Expr, ind-Expr}
+use Rattle.span_text.specs.declared.expr.Expr.TheFolds.{fold-roll-Expr}
 use Rattle.span_text.specs.declared.expr.BinOp.{BinOp}
 use Rattle.span_text.specs.declared.sign.Infix.TheVariants as sign
-use Rattle.span_text.specs.Expression.{Size, nodes, size}
+use Rattle.span_text.specs.Expression.{Size, nodes}
 use Rattle.span_text.specs.Expressions.{level, left_level}
 use Rattle.sh_grammar.specs.Bytes.{Text}
 use Rattle.sh_printer.specs.Chains.{if_bare, first_step, first_of, has_first_by, has_first, next_by, next_down, down, last_step, last_operator, operators_text, few_text, halves_text, Chained, layer_nodes}

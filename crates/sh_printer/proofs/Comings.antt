@@ -1,5 +1,5 @@
 -- The same pieces under another spelling of their text, and under a greater weight.
-use Rattle.std.proofs.Common.{◌≡◌, ℕ, ◌≤◌, ◌<◌, Bool, ◌∙◌, arith}
+use Rattle.std.proofs.Common.{◌≡◌, ℕ, ◌≤◌, Bool, ◌∙◌, arith}
 use Rattle.sh_grammar.specs.Bytes.{Text}
 use Rattle.sh_printer.specs.declared.pieces.Split.{Split}
 use Rattle.sh_printer.specs.Pieces.{Comes}

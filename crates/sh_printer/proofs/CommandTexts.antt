@@ -1,25 +1,24 @@
 -- Commands and lists from their pieces: texts and weights.
-use Rattle.std.proofs.Common.{◌≡◌, ℕ, ◌+◌, ◌<◌, ◌≤◌, Bool, true, false, List, [], ◌∷◌, ◌++◌, drop, length, get_or, refl, sym, ap, ◌∙◌, append_assoc, arith}
-use Rattle.std.specs.Prelude.{map, codes, Option, Some, None, option_map}
+use Rattle.std.proofs.Common.{◌≡◌, ◌+◌, ◌≤◌, Bool, true, false, List, [], ◌∷◌, ◌++◌, drop, length, refl, sym, ap, ◌∙◌, append_assoc, arith}
+use Rattle.std.specs.Prelude.{map, codes}
 use Rattle.std.proofs.lemmas.List.{append-nil}
 use Rattle.sh_syntax.specs.declared.tree.Assign.{Assign}
 use Rattle.sh_syntax.specs.declared.tree.CaseItem.{CaseItem, out-CaseItem}
 use Rattle.sh_syntax.specs.declared.tree.Command.{Command}
 use Rattle.sh_syntax.specs.declared.tree.Item.{Item, out-Item}
-use Rattle.sh_syntax.specs.declared.tree.AndOr.{AndOr, out-AndOr}
+use Rattle.sh_syntax.specs.declared.tree.AndOr.{out-AndOr}
 use Rattle.sh_syntax.specs.declared.tree.Joint.{Joint}
 use Rattle.sh_syntax.specs.declared.tree.Joint.TheVariants.{And, Or}
-use Rattle.sh_syntax.specs.declared.tree.Pipeline.{Pipeline, out-Pipeline}
+use Rattle.sh_syntax.specs.declared.tree.Pipeline.{Pipeline}
 use Rattle.sh_syntax.specs.declared.tree.Script.{Script}
 use Rattle.sh_syntax.specs.declared.tree.Word.{Word}
 use Rattle.sh_grammar.specs.Bytes.{Text, in_word}
 use Rattle.sh_grammar.specs.Shape as shape
-use Rattle.sh_printer.specs.Codes.{end_before}
 use Rattle.sh_printing.specs.Marks.{End, next, line, piped, blank}
 use Rattle.sh_printer.specs.Pieces.{chains_text, branch_views, link_views, pipeline_mark}
 use Rattle.sh_printing.specs.Printing.{list_text, parts_text, command_text, branches_text, patterns_text, items_text, stages_text, pipeline_text, links_text, chain_text, stage_end, link_end, script_text, has_word, has_assign, for_words_text, kind_text}
-use Rattle.sh_syntax.specs.View.{view, view_assign, assigns_of, view_case_item, view_chain, view_command, view_item, view_pipeline, view_word, branches_of, words_of, case_items_of, stages_of, link_of, links_of, items_of}
-use Rattle.sh_printer.specs.Weights.{parts_weight, words_weight, command_weight, branches_weight, items_weight, stages_weight, pipeline_weight, links_weight, chain_weight, script_weight}
+use Rattle.sh_syntax.specs.View.{view, view_assign, assigns_of, view_case_item, view_command, view_item, view_pipeline, view_word, branches_of, words_of, case_items_of, stages_of, link_of, links_of, items_of}
+use Rattle.sh_printer.specs.Weights.{words_weight, command_weight, branches_weight, items_weight, stages_weight, pipeline_weight, links_weight, chain_weight, script_weight}
 use Rattle.sh_syntax.proofs.Views.{item_is, chain_is, case_item_is}
 
 pub branches_first : (full : Bool) (key : Text) (bs : List (Script × Script)) (b : Script × Script) → bs ≡ b ∷ drop 1 bs → (((key ++ list_text full (view b.0)) ++ []) ++ ((codes "then " ++ list_text full (view b.1)) ++ [])) ++ branches_text full (codes "elif ") (branches_of (branch_views (drop 1 bs))) ≡ branches_text full key (branches_of (branch_views bs))

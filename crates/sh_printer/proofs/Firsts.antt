@@ -1,5 +1,5 @@
 -- The first item of a list and those behind it, in texts and weights.
-use Rattle.std.proofs.Common.{◌≡◌, ℕ, ◌+◌, ◌<◌, ◌≤◌, Bool, true, false, List, [], ◌∷◌, ◌++◌, drop, take, length, get_or, refl, sym, ap, ◌∙◌, append_assoc, arith}
+use Rattle.std.proofs.Common.{◌≡◌, ◌+◌, ◌<◌, ◌≤◌, Bool, true, false, List, [], ◌∷◌, ◌++◌, drop, length, get_or, refl, sym, ap, ◌∙◌, append_assoc, arith}
 use Rattle.std.specs.Prelude.{map}
 use Rattle.std.proofs.lemmas.List.{append-nil}
 use Rattle.sh_syntax.specs.declared.tree.Assign.{Assign}
@@ -7,13 +7,12 @@ use Rattle.sh_syntax.specs.declared.tree.Part.{Part}
 use Rattle.sh_syntax.specs.declared.tree.Redirect.{Redirect}
 use Rattle.sh_syntax.specs.declared.tree.Word.{Word}
 use Rattle.sh_grammar.specs.Bytes.{Text, Context, in_word}
-use Rattle.sh_grammar.specs.Shape as shape
 use Rattle.sh_printing.specs.Marks.{blank, led, gap}
-use Rattle.sh_printer.specs.Owed.{body_text, still_owed, owed_text}
+use Rattle.sh_printer.specs.Owed.{body_text, still_owed}
 use Rattle.sh_printer.specs.Pieces.{owed_of, owed_weight}
 use Rattle.sh_printing.specs.Printing.{part_text, parts_text, words_text, value_text, assigns_text, part_opens, behind_opening, continued}
-use Rattle.sh_syntax.specs.View.{view_assign, view_part, view_redirect, view_word, parts_of, words_of, assigns_of, redirects_of}
-use Rattle.sh_printer.specs.Weights.{part_weight, parts_weight, words_weight, value_weight, assigns_weight, redirects_weight}
+use Rattle.sh_syntax.specs.View.{view_assign, view_part, view_redirect, view_word, parts_of, words_of, assigns_of}
+use Rattle.sh_printer.specs.Weights.{part_weight, parts_weight, words_weight, value_weight, assigns_weight}
 
 pub none : {X : Type 0} (xs : List X) → length xs < 1 → xs ≡ []
 none [] lt = refl

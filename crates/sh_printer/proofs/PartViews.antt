@@ -13,8 +13,8 @@ use Rattle.sh_syntax.specs.declared.tree.Word.{Word, out-Word}
 use Rattle.sh_grammar.specs.Bytes.{Text}
 use Rattle.sh_grammar.specs.Shape as shape
 use Rattle.sh_printing.specs.Printing.{op_opens, parts_open}
-use Rattle.sh_syntax.specs.View.{Sum, view, view_arith, view_op, view_param, view_part, view_part_kind, view_test, view_word, parts_of, words_of}
-use Rattle.sh_syntax.proofs.Views.{part_is, plain_is, exact_is, double_is, tilde_is, param_is, subst_is, arith_part_is, arith_is, as_is_is, length_is, fill_is, trim_is, word_is}
+use Rattle.sh_syntax.specs.View.{Sum, view, view_op, view_param, view_part, view_part_kind, view_word, parts_of, words_of}
+use Rattle.sh_syntax.proofs.Views.{part_is, plain_is, exact_is, double_is, tilde_is, param_is, subst_is, arith_part_is, arith_is, fill_is, trim_is, word_is}
 
 pub plain_view : (p : Part) (text : Text) → p.kind ≡ part'.Plain text → view_part p ≡ shape.plain text
 plain_view p text e = part_is p ∙ ap view_part_kind e ∙ plain_is text

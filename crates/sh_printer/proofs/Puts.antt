@@ -1,6 +1,5 @@
 -- One text put after another.
-use Rattle.std.proofs.Common.{◌≡◌, ℕ, Bool, true, false, List, [], ◌++◌, Option, Result, Ok, Err, refl, sym, ap, subst, ◌∙◌, Bor, arith}
-use Rattle.span_text.specs.Streams.{Falls, Rose, Wrote}
+use Rattle.std.proofs.Common.{◌≡◌, ℕ, Bool, true, false, [], ◌++◌, Option, Result, Ok, Err, refl, sym, ap, ◌∙◌, Bor, arith}
 use Rattle.span_text.proofs.Writes.{Grows-none, Wrote-then, Wrote-early}
 use Rattle.sh_grammar.specs.Bytes.{Text}
 use Rattle.sh_printer.specs.declared.search.Search.{Search}

@@ -6,7 +6,7 @@ use Rattle.sh_syntax.specs.declared.tree.Redirect.{Redirect, out-Redirect}
 use Rattle.sh_syntax.specs.declared.tree.Word.{Word, out-Word}
 use Rattle.sh_grammar.specs.Bytes.{Text, in_body, in_word}
 use Rattle.sh_grammar.specs.Shape as shape
-use Rattle.sh_printing.specs.Marks.{blank, ended, gap, behind_word, led, fd_text, aimed_text, delimiter_text, is_here}
+use Rattle.sh_printing.specs.Marks.{blank, ended, gap, behind_word, led, fd_text, aimed_text, is_here}
 use Rattle.sh_printer.specs.Owed.{body_by, body_text, owed_text, still_owed}
 use Rattle.sh_printer.specs.Pieces.{here_start, here_end, here_text, inner_text, owed_of, owed_weight, operator_text, target_text, delimiter_of, redirect_text, still_owed_behind, last_words_of}
 use Rattle.sh_printing.specs.Marks.{End}

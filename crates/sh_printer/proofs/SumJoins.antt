@@ -1,5 +1,5 @@
 -- The texts of an expression's pieces, put together; and an expression's pieces, from those of its layer.
-use Rattle.std.proofs.Common.{◌≡◌, ℕ, ◌≤◌, List, [], ◌∷◌, ◌++◌, refl, sym, arith, append_assoc}
+use Rattle.std.proofs.Common.{◌≡◌, [], ◌∷◌, ◌++◌, sym, arith, append_assoc}
 use Rattle.std.proofs.lemmas.List.{append-nil}
 use Rattle.span_text.specs.declared.expr.Expr.{Expr}
 use Rattle.span_text.specs.declared.expr.Expr.TheOpen.{Expr-F}

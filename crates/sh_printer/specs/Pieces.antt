@@ -1,5 +1,5 @@
 -- The text of a piece, and that a node's pieces are its text.
-use Rattle.std.specs.Prelude.{◌≡◌, ℕ, ◌+◌, ◌*◌, ◌<◌, Bool, true, false, List, [], ◌∷◌, ◌++◌, Option, Some, None, codes, map, take, drop, option_map, if◌then◌else◌}
+use Rattle.std.specs.Prelude.{◌≡◌, ℕ, ◌+◌, ◌*◌, ◌<◌, Bool, true, false, List, [], ◌∷◌, ◌++◌, codes, map, take, drop, option_map, if◌then◌else◌}
 use Rattle.std.specs.Fmt.{signed_decimal}
 use Rattle.span_text.specs.declared.expr.Expr.{Expr}
 use Rattle.span_text.specs.declared.expr.Expr.TheOpen.{Expr-F}
@@ -31,8 +31,8 @@ use Rattle.sh_syntax.specs.declared.tree.Redirect.{Redirect}
 use Rattle.sh_syntax.specs.declared.tree.Script.{Script}
 use Rattle.sh_syntax.specs.declared.tree.Pipeline.{Pipeline}
 use Rattle.sh_syntax.specs.declared.tree.Joint.{Joint}
-use Rattle.sh_printing.specs.Marks.{End, blank, gap, exact_text, param_text, param_name, colon_text, test_text, fd_text, is_here, delimiter_text, whole_body}
-use Rattle.sh_printer.specs.Owed.{body_text, owed_text}
+use Rattle.sh_printing.specs.Marks.{End, blank, gap, exact_text, param_text, param_name, colon_text, test_text, fd_text, delimiter_text}
+use Rattle.sh_printer.specs.Owed.{owed_text}
 use Rattle.sh_printing.specs.Printing.{owed_behind, parts_open, part_text, parts_text, operand_texts, words_text, value_text, assigns_text, last_words_text, words_last, redirects_text, command_text, kind_text, branches_text, for_words_text, items_text, patterns_text, stages_text, pipeline_text, links_text, chain_text, list_text}
 use Rattle.sh_printer.specs.Chains.{halves_text, layer_nodes}
 use Rattle.sh_printing.specs.Sums.{Levelled, expr_step, levelled_text}

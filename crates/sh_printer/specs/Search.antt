@@ -1,9 +1,9 @@
 -- Where the printed text goes: to a sink, or past a search for a line.
-use Rattle.std.specs.Prelude.{◌≡◌, ℕ, ◌≤◌, Bool, true, false, List, [], ◌∷◌, drop, length, Option, Some, None, Result, Ok, if◌then◌else◌}
+use Rattle.std.specs.Prelude.{◌≡◌, ℕ, true, false, drop, Option, Some, None, Result, Ok, if◌then◌else◌}
 use Rattle.span_text.specs.Streams.{Wrote}
 use Rattle.sh_grammar.specs.Bytes.{Text}
 use Rattle.sh_printer.specs.declared.search.Search.{Search}
-use Rattle.sh_printing.specs.Delimiters.{Sight, sight, next_sight}
+use Rattle.sh_printing.specs.Delimiters.{Sight, sight}
 
 abbrev pub rest_of : Search → Option Text
 rest_of s = if s.same then Some (drop s.at s.name.now) else None

@@ -20,8 +20,3 @@ mod sums;
 mod words;
 
 pub use printer::print;
-
-#[cfg(test)]
-mod building;
-#[cfg(test)]
-mod printing_tests;

@@ -1,7 +1,4 @@
-use Rattle.std.proofs.Common.{◌≡◌, List, [], refl, arith, append_assoc}
-use Rattle.sh_printer.specs.Codes.{view_end}
-use Rattle.sh_printer.specs.Pieces.{command_piece_text, command_piece_weight, word_text, word_weight}
-use Rattle.std.proofs.lemmas.List.{append-nil}
+use Rattle.std.proofs.Common.{refl, arith}
 use Rattle.sh_printer.proofs.commands.else_piece.Goals as goal
 
 pub returns-in-None-clause-text : goal.returns-in-None-clause-text

@@ -1,7 +1,4 @@
-use Rattle.std.proofs.Common.{◌≡◌, List, [], ◌∷◌, refl, sym, ap, ◌∙◌, arith, append_assoc}
-use Rattle.std.specs.Prelude.{map, take}
-use Rattle.std.proofs.lemmas.List.{append-nil}
-use Rattle.sh_printer.specs.Codes.{view_end, view_context}
+use Rattle.std.proofs.Common.{refl, arith}
 use Rattle.sh_printer.specs.Pieces.{command_piece_text, command_piece_weight, word_text, word_weight}
 use Rattle.sh_printer.proofs.commands.for_words_apart.Goals as goal
 

@@ -1,5 +1,4 @@
-use Rattle.std.proofs.Common.{◌≡◌, List, [], refl, arith, append_assoc}
-use Rattle.sh_printer.specs.Codes.{view_end}
+use Rattle.std.proofs.Common.{refl, arith}
 use Rattle.sh_printer.specs.Pieces.{command_piece_text, command_piece_weight, word_text, word_weight}
 use Rattle.sh_printer.proofs.commands.for_words_piece.Goals as goal
 

@@ -1,4 +1,3 @@
-use Rattle.sh_printer.specs.Codes.{view_end}
 use Rattle.sh_printer.proofs.CommandTexts.{some_assigns}
 use Rattle.sh_printer.proofs.commands.has_assigns.Goals as goal
 

@@ -1,4 +1,3 @@
-use Rattle.sh_printer.specs.Codes.{view_end}
 use Rattle.sh_printer.proofs.CommandTexts.{some_words}
 use Rattle.sh_printer.proofs.commands.has_words.Goals as goal
 

@@ -1,4 +1,3 @@
-use Rattle.std.proofs.Common.{refl}
 use Rattle.sh_syntax.proofs.Views.{word_is}
 use Rattle.sh_printer.proofs.Firsts.{first}
 use Rattle.sh_printer.proofs.LastWords.{first_word}

@@ -1,4 +1,4 @@
-use Rattle.std.proofs.Common.{◌∷◌, ◌++◌, []}
+use Rattle.std.proofs.Common.{◌∷◌, []}
 use Rattle.std.proofs.lemmas.Result.{err_from_is_err_and}
 use Rattle.sh_printer.proofs.Puts.{put_then, put_early}
 use Rattle.sh_printer.proofs.leaves.print_escaped.Goals as goal

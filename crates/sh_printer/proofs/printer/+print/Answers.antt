@@ -1,5 +1,5 @@
-use Rattle.std.proofs.Common.{rules, ◌≡◌, ℕ, ◌+◌, ◌-◌, ◌^◌, max, min, true, false, subst, ◌++◌, ◌∷◌, [], Bool, Ok, length, drop, refl, sym, ap, ◌∙◌, append_assoc, arith}
-use Rattle.std.proofs.lemmas.List.{append-nil, drop_all}
+use Rattle.std.proofs.Common.{rules, ◌≡◌, ℕ, ◌+◌, ◌-◌, ◌^◌, max, min, true, false, subst, ◌++◌, ◌∷◌, [], Bool, Ok, drop, refl, sym, ap, ◌∙◌, append_assoc, arith}
+use Rattle.std.proofs.lemmas.List.{drop_all}
 use Rattle.std.proofs.lemmas.Result.{err_from_is_err_and}
 use Rattle.std.specs.Prelude.{map}
 use Rattle.span_text.specs.declared.fault.Failed.{Failed}
@@ -17,8 +17,7 @@ use Rattle.sh_printer.proofs.Numbers.{covers_lines, lines_none}
 use Rattle.sh_printer.proofs.Gathers.{gathered_none, gathered_more, gathered_done, lines_start, lines_more, lines_all, lines_as, covers_here, delimiter_is, whole_open, whole_closed, ends_after, next_free, stop_free, last_free, if_ok}
 use Rattle.sh_printer.proofs.GatheredBodies.{lines_of_body}
 use Rattle.sh_printer.proofs.Puts.{put_none}
-use Rattle.sh_syntax.proofs.Views.{redirect_is, word_is}
-use Rattle.sh_printer.proofs.Walks.{Walked, walked_none, walked_done, walked_more, walked_fails, walked_all, walked_start, start_fails}
+use Rattle.sh_printer.proofs.Walks.{walked_none, walked_done, walked_more, walked_fails, walked_all, walked_start, start_fails}
 use Rattle.sh_printer.proofs.printer.+print.Goals as goal
 
 pub ends_line-print_piece-requires : goal.ends_line-print_piece-requires

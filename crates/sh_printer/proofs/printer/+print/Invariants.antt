@@ -1,5 +1,5 @@
-use Rattle.std.proofs.Common.{◌≡◌, ℕ, ◌+◌, ◌-◌, ◌≤◌, drop}
-use Rattle.std.specs.Prelude.{map, true, false}
+use Rattle.std.proofs.Common.{◌≡◌, ◌+◌, ◌-◌, ◌≤◌, drop}
+use Rattle.std.specs.Prelude.{map, false}
 use Rattle.span_text.specs.declared.fault.Failed.{Failed}
 use Rattle.sh_printing.specs.Delimiters.{free_from, tries}
 use Rattle.sh_printer.specs.Pieces.{inner_text, owed_of, owed_weight, piece_text, piece_weight}

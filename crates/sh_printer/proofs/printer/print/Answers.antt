@@ -1,4 +1,4 @@
-use Rattle.std.proofs.Common.{◌≡◌, true, refl, sym, ap, ◌∙◌, subst}
+use Rattle.std.proofs.Common.{true}
 use Rattle.sh_printer.specs.Pieces.{command_piece_text}
 use Rattle.sh_syntax.specs.View.{view}
 use Rattle.sh_printer.proofs.CommandTexts.{script_chains}

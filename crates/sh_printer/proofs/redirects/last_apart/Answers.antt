@@ -1,5 +1,4 @@
-use Rattle.std.proofs.Common.{◌≡◌, [], refl, sym, ap, ◌∙◌, arith}
-use Rattle.std.specs.Prelude.{map}
+use Rattle.std.proofs.Common.{◌≡◌, [], refl, arith}
 use Rattle.sh_syntax.proofs.Views.{word_is}
 use Rattle.sh_printer.specs.Codes.{view_end}
 use Rattle.sh_printer.specs.Pieces.{word_text, word_weight}

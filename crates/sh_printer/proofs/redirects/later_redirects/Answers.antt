@@ -1,7 +1,4 @@
-use Rattle.std.proofs.Common.{◌≡◌, List, [], refl, sym, ap, ◌∙◌, arith, append_assoc}
-use Rattle.std.specs.Prelude.{map}
-use Rattle.std.proofs.lemmas.List.{append-nil, take_all, drop_all}
-use Rattle.sh_printer.specs.Codes.{view_end}
+use Rattle.std.proofs.Common.{refl, sym, ◌∙◌, arith}
 use Rattle.sh_printer.specs.Pieces.{word_text, word_weight}
 use Rattle.sh_syntax.specs.View.{view_redirect}
 use Rattle.sh_grammar.specs.Bytes.{in_body}

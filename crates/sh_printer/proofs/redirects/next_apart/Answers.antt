@@ -1,9 +1,6 @@
-use Rattle.std.proofs.Common.{◌≡◌, List, [], refl, sym, ap, ◌∙◌, arith, append_assoc}
+use Rattle.std.proofs.Common.{sym, ◌∙◌, arith}
 use Rattle.std.specs.Prelude.{map}
-use Rattle.std.proofs.lemmas.List.{append-nil}
-use Rattle.sh_printer.specs.Pieces.{word_text, word_weight}
 use Rattle.sh_syntax.specs.View.{view_redirect}
-use Rattle.sh_printing.specs.Delimiters as delimiters
 use Rattle.sh_printer.proofs.Bodies.{next_here, next_none}
 use Rattle.sh_printer.proofs.Comings.{coming}
 use Rattle.sh_printer.proofs.redirects.next_apart.Goals as goal

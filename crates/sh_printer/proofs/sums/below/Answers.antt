@@ -1,4 +1,4 @@
-use Rattle.std.proofs.Common.{◌≡◌, ◌∷◌, ◌++◌, [], refl, sym, ap, ◌∙◌, arith}
+use Rattle.std.proofs.Common.{refl}
 use Rattle.sh_printer.specs.Chains.{down}
 use Rattle.sh_printer.proofs.Chains.{further}
 use Rattle.sh_printer.proofs.sums.below.Goals as goal

@@ -1,4 +1,4 @@
-use Rattle.std.proofs.Common.{◌≡◌, ◌∷◌, ◌++◌, [], refl, sym, ap, ◌∙◌, arith}
+use Rattle.std.proofs.Common.{arith}
 use Rattle.std.specs.Prelude.{codes}
 use Rattle.sh_printer.proofs.SumJoins.{choice_joins}
 use Rattle.sh_printer.specs.Pieces.{operand_of, sum_text, sum_weight}

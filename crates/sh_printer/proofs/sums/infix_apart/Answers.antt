@@ -1,4 +1,4 @@
-use Rattle.std.proofs.Common.{◌≡◌, ◌∷◌, ◌++◌, [], refl, sym, ap, ◌∙◌, arith}
+use Rattle.std.proofs.Common.{refl, arith}
 use Rattle.std.proofs.lemmas.List.{append-nil}
 use Rattle.sh_printer.specs.Pieces.{operand_of, sum_text, sum_weight}
 use Rattle.sh_printing.specs.Sums.{levelled_text}

@@ -1,4 +1,4 @@
-use Rattle.std.proofs.Common.{◌≡◌, ◌∷◌, ◌++◌, [], refl, sym, ap, ◌∙◌, arith}
+use Rattle.std.proofs.Common.{refl, sym, ◌∙◌, arith}
 use Rattle.span_text.specs.declared.expr.Expr.TheOpen as layer
 use Rattle.span_text.specs.declared.expr.Expr.TheVariants as expr
 use Rattle.sh_printer.specs.Pieces.{operand_of, sum_text, sum_weight}

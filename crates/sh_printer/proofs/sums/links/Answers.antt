@@ -1,5 +1,5 @@
-use Rattle.std.proofs.Common.{◌≡◌, ◌∷◌, ◌++◌, [], refl, sym, ap, ◌∙◌, arith, true, false}
-use Rattle.std.specs.Prelude.{Option, Some, None}
+use Rattle.std.proofs.Common.{refl, sym, ap, ◌∙◌, arith}
+use Rattle.std.specs.Prelude.{Option}
 use Rattle.span_text.specs.declared.expr.Expr.{Expr}
 use Rattle.sh_printer.specs.Chains.{down, has_first, has_first_by, next_by}
 use Rattle.sh_printer.proofs.Chains.{further, still_chained}

@@ -1,4 +1,4 @@
-use Rattle.std.proofs.Common.{◌≡◌, ◌∷◌, ◌++◌, [], refl, sym, ap, ◌∙◌, arith}
+use Rattle.std.proofs.Common.{sym, arith}
 use Rattle.std.proofs.Common.{◌-◌, ◌/◌}
 use Rattle.std.proofs.lemmas.List.{append-nil}
 use Rattle.sh_printer.specs.Chains.{down, halves_text}

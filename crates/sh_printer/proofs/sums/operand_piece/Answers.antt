@@ -1,11 +1,8 @@
-use Rattle.std.proofs.Common.{◌≡◌, ℕ, List, refl, sym, ap, ◌∙◌, arith, take, get_or}
+use Rattle.std.proofs.Common.{◌≡◌, ℕ, List, sym, ap, ◌∙◌, arith, take, get_or}
 use Rattle.std.specs.Prelude.{map}
-use Rattle.sh_grammar.specs.Bytes.{in_double}
-use Rattle.sh_grammar.specs.Shape as shape
 use Rattle.sh_printing.specs.Marks.{gap}
-use Rattle.sh_printing.specs.Printing.{parts_text, words_open}
+use Rattle.sh_printing.specs.Printing.{words_open}
 use Rattle.sh_printer.specs.Pieces.{owed_of, word_text, word_weight}
-use Rattle.sh_printer.specs.Weights.{parts_weight}
 use Rattle.sh_syntax.specs.declared.tree.Part.{Part}
 use Rattle.sh_syntax.specs.declared.tree.Word.{Word, out-Word}
 use Rattle.sh_syntax.specs.View.{view_part, view_word, parts_of, words_of}

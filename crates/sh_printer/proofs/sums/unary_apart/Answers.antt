@@ -1,4 +1,4 @@
-use Rattle.std.proofs.Common.{◌≡◌, ◌∷◌, ◌++◌, [], refl, sym, ap, ◌∙◌, arith}
+use Rattle.std.proofs.Common.{arith}
 use Rattle.sh_printer.proofs.SumJoins.{unary_joins}
 use Rattle.sh_printer.specs.Pieces.{operand_of, sum_text, sum_weight}
 use Rattle.sh_printing.specs.Sums.{unary_text, levelled_text}

@@ -1,5 +1,4 @@
-use Rattle.std.proofs.Common.{refl, arith, append_assoc, subst}
-use Rattle.sh_printer.specs.Pieces.{Comes}
+use Rattle.std.proofs.Common.{refl, arith}
 use Rattle.sh_printer.proofs.Comings.{coming}
 use Rattle.sh_syntax.proofs.Views.{as_is_is, length_is, fill_is, trim_is}
 use Rattle.sh_printer.proofs.words.param_apart.Goals as goal

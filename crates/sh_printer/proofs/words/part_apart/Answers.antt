@@ -1,4 +1,3 @@
-use Rattle.std.proofs.Common.{refl}
 use Rattle.sh_printer.specs.Pieces.{word_text, word_weight}
 use Rattle.sh_printer.proofs.PartViews.{plain_view, exact_view, double_view, tilde_view, param_view, subst_view, arith_view}
 use Rattle.sh_printer.proofs.words.part_apart.Goals as goal
