@@ -1,3 +1,4 @@
+pub mod ExactRules
 pub mod BackBegins
 pub mod BackBehind
 pub mod BackBraces
