@@ -1,3 +1,8 @@
+pub mod ExactBytes
+pub mod ExactNodes
+pub mod ExactParams
+pub mod ExactParts
+pub mod ExactStates
 pub mod ExactRules
 pub mod BackBegins
 pub mod BackBehind
