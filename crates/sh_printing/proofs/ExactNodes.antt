@@ -53,6 +53,10 @@ abbrev pub is_redirect : Bool → ℕ → Node → Bool
 is_redirect i d (redirect_node fd op w) = redirects_fit i d (redirect fd op w no_redirect)
 is_redirect i d x = false
 
+abbrev pub is_aimed : Bool → ℕ → Node → Bool
+is_aimed i d (aimed_node op w) = redirects_fit i d (redirect Rattle.std.specs.Prelude.None op w no_redirect)
+is_aimed i d x = false
+
 -- an assignment or a redirection
 abbrev pub is_prefix : Bool → ℕ → Node → Bool
 is_prefix i d (assign_node n v) = assigns_fit i d (assign n v no_assign)

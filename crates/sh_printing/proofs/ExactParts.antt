@@ -51,7 +51,7 @@ pub fronts_free : (c : Context) (ps : shape.Parts) (t : Text) → Fronts c ps t 
 fronts_free c no_part t f = f.1
 fronts_free c (part p ps) t f = unit_stuck c t f.0
 
-same_byte : (p : ℕ → Bool) (b : ℕ) (t : Text) → starts (λ z. z == b) t ≡ true → starts p t ≡ p b
+pub same_byte : (p : ℕ → Bool) (b : ℕ) (t : Text) → starts (λ z. z == b) t ≡ true → starts p t ≡ p b
 same_byte p b [] e = absurd (false≢true e)
 same_byte p b (x ∷ xs) e = ap p (eqb-true x b e)
 
