@@ -29,7 +29,7 @@ use Rattle.sh_printing.proofs.ExactClaims.{One, PartsOk, Anywhere, Says}
 -- ---- parts
 
 -- the parts behind a part
-parts_behind : (p : shape.Part) (ones others : List Node) → ones ≡ part_node p ∷ [] → parts_in (ones ++ others) ≡ part p (parts_in others)
+pub parts_behind : (p : shape.Part) (ones others : List Node) → ones ≡ part_node p ∷ [] → parts_in (ones ++ others) ≡ part p (parts_in others)
 parts_behind p ones others e = ap (λ (z : List Node). parts_in (z ++ others)) e
 
 more_ok : (i : Bool) (d : ℕ) (c : Context) (s m e : State) (ones : List Node) (ps : shape.Parts) → unit_starts c (clear s.bytes) ≡ true → (o : OnePart i d c s m ones) → PartsOk i d c m e ps → PartsOk i d c s e (part o.one ps)
@@ -186,7 +186,7 @@ lone_trim true b e = e
 lone_trim false b e = refl
 
 -- the word doesn't make the mark longer
-plain_front : (c : Context) (k : ℕ) (w : shape.Parts) (t : Text) → Fronts c w t → starts (λ b. b == k) t ≡ false → plain_begins k w ≡ false
+pub plain_front : (c : Context) (k : ℕ) (w : shape.Parts) (t : Text) → Fronts c w t → starts (λ b. b == k) t ≡ false → plain_begins k w ≡ false
 plain_front c k no_part t f e = refl
 plain_front c k (part (plain []) ps) t f e = refl
 plain_front c k (part (plain (b ∷ bs)) ps) t f e = sym (same_byte (λ z. z == k) b t f.1.0) ∙ e

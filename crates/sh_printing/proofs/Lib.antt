@@ -2,6 +2,7 @@ pub mod ExactBytes
 pub mod ExactClaims
 pub mod ExactSteps
 pub mod ExactExpansions
+pub mod ExactWords
 pub mod ExactNodes
 pub mod ExactParams
 pub mod ExactParts
