@@ -3,6 +3,7 @@ pub mod ExactClaims
 pub mod ExactSteps
 pub mod ExactExpansions
 pub mod ExactWords
+pub mod ExactFirst
 pub mod ExactNodes
 pub mod ExactParams
 pub mod ExactParts
