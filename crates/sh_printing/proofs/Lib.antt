@@ -4,6 +4,7 @@ pub mod ExactSteps
 pub mod ExactExpansions
 pub mod ExactWords
 pub mod ExactFirst
+pub mod ExactLists
 pub mod ExactNodes
 pub mod ExactParams
 pub mod ExactParts
