@@ -5,6 +5,7 @@ pub mod ExactExpansions
 pub mod ExactWords
 pub mod ExactFirst
 pub mod ExactLists
+pub mod ExactCompound
 pub mod ExactNodes
 pub mod ExactParams
 pub mod ExactParts
