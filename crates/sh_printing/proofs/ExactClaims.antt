@@ -1,5 +1,5 @@
 -- What each rule gives, so deep: values that fit.
-use Rattle.std.proofs.Common.{◌≡◌, ℕ, Bool, true, false, List, [], ◌∷◌, Option, None}
+use Rattle.std.proofs.Common.{◌≡◌, ℕ, Bool, true, false, List, [], ◌∷◌, ◌++◌, Option, None}
 use Rattle.std.specs.Prelude.{◌||◌}
 use Rattle.std.specs.List.{list_all}
 use Rattle.span_text.specs.Names.{is_name}
@@ -103,7 +103,7 @@ Says i prefixed d s e vs = SimpleOk i d vs
 Says i called d s e vs = simple_next s.bytes ≡ true → (redirect_next s.bytes || assign_next s.bytes) ≡ false → SimpleOk i d vs
 Says i suffix d s e vs = SuffixOk i d s.bytes vs
 Says i prefix_item d s e vs = OneNode (is_prefix i d) vs
-Says i suffix_item d s e vs = OneNode (is_suffix i d) vs × ((redirect_next s.bytes || assign_next s.bytes) ≡ false → name_fits true (words_in vs) ≡ true)
+Says i suffix_item d s e vs = OneNode (is_suffix i d) vs × ((redirect_next s.bytes || assign_next s.bytes) ≡ false → (ws : List Node) → name_fits true (words_in (vs ++ ws)) ≡ true)
 Says i assign d s e vs = OneNode (is_prefix i d) vs
 Says i redirect d s e vs = OneNode (is_redirect i d) vs
 Says i target d s e vs = OneNode (is_aimed i d) vs

@@ -139,7 +139,7 @@ key_is : (k : Key) (bytes text : Text) → (bare bytes).0 ≡ text → unit_star
 unfolding is_key
 key_is k bytes text r u = rw u (ap (λ (z : Text). same_text z (key_text k)) r)
 
-reserved_is : (bytes text : Text) → (bare bytes).0 ≡ text → unit_starts in_word (bare bytes).1 ≡ false → (opens_compound bytes || is_other_key bytes) ≡ is_reserved_text text
+pub reserved_is : (bytes text : Text) → (bare bytes).0 ≡ text → unit_starts in_word (bare bytes).1 ≡ false → (opens_compound bytes || is_other_key bytes) ≡ is_reserved_text text
 reserved_is bytes text r u =
     rw (key_is tokens.If bytes text r u, key_is For bytes text r u, key_is While bytes text r u, key_is Until bytes text r u, key_is Case bytes text r u, key_is OpenBrace bytes text r u,
       key_is Then bytes text r u, key_is Elif bytes text r u, key_is Else bytes text r u, key_is Fi bytes text r u, key_is In bytes text r u, key_is Do bytes text r u, key_is Done bytes text r u, key_is Esac bytes text r u, key_is CloseBrace bytes text r u, key_is Bang bytes text r u) refl

@@ -6,6 +6,7 @@ pub mod ExactWords
 pub mod ExactFirst
 pub mod ExactLists
 pub mod ExactCompound
+pub mod ExactSimple
 pub mod ExactNodes
 pub mod ExactParams
 pub mod ExactParts
