@@ -7,6 +7,7 @@ pub mod ExactFirst
 pub mod ExactLists
 pub mod ExactCompound
 pub mod ExactSimple
+pub mod ExactFunctions
 pub mod ExactNodes
 pub mod ExactParams
 pub mod ExactParts
