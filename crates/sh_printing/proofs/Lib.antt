@@ -8,6 +8,7 @@ pub mod ExactLists
 pub mod ExactCompound
 pub mod ExactSimple
 pub mod ExactFunctions
+pub mod ExactRedirects
 pub mod ExactNodes
 pub mod ExactParams
 pub mod ExactParts
