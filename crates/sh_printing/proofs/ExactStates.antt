@@ -4,7 +4,7 @@ use Rattle.sh_grammar.specs.Bytes.{Text}
 use Rattle.sh_grammar.specs.Bodies.{Owed}
 use Rattle.sh_grammar.specs.State.{State}
 use Rattle.sh_grammar.specs.Steps.{Known, literal_parts}
-use Rattle.sh_printing.specs.Spellable.{ends_with, keeps}
+use Rattle.sh_printing.specs.Spellable.{ends_with, is_unjoined, keeps}
 use Rattle.sh_printing.specs.Printable.{literal_body}
 use Rattle.sh_printing.proofs.ExactRules.{All}
 
@@ -13,9 +13,18 @@ abbrev pub is_lines : Text → Bool
 is_lines [] = true
 is_lines (b ∷ bs) = ends_with 10 (b ∷ bs)
 
+-- an end of a text without joins: a backslash may stand before it
+abbrev pub Unjoined : Text → Type 0
+Unjoined t = (quoted : Bool) × (is_unjoined quoted t ≡ true)
+
+-- an end of a body that is expanded
+abbrev pub Clean : Bool → Text → Type 0
+Clean false t = Unit {0}
+Clean true t = Unjoined t × (is_lines t ≡ true)
+
 -- what is kept from left to right
 pub record Forth (inside : Bool) (s : State) : Type 0 where
-  pub clean : keeps inside s.bytes ≡ true
+  pub clean : Clean inside s.bytes
   pub counted : s.named ≡ length s.found + length s.owed
 
 -- a body of a delimiter that was quoted or not

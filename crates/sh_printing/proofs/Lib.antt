@@ -9,6 +9,8 @@ pub mod ExactCompound
 pub mod ExactSimple
 pub mod ExactFunctions
 pub mod ExactRedirects
+pub mod ExactTails
+pub mod ExactBodies
 pub mod ExactNodes
 pub mod ExactParams
 pub mod ExactParts
