@@ -11,6 +11,7 @@ pub mod ExactFunctions
 pub mod ExactRedirects
 pub mod ExactTails
 pub mod ExactBodies
+pub mod ExactLines
 pub mod ExactNodes
 pub mod ExactParams
 pub mod ExactParts
