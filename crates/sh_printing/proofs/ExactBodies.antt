@@ -153,7 +153,7 @@ body_from_ends P Q k o line_start (b ∷ bs) h =
 body_from_ends P Q k o within (b ∷ bs) h =
     further_ends Q (last_line o within (b ∷ bs)) _ (last_ends P Q k o within (b ∷ bs) h) (bytes_end P Q k o within b bs (λ q. body_from_ends P Q k o q bs (k.tails b bs h)))
 
-nothing_of : (P : Text → Type 0) → Tails P → (t : Text) → P t → P []
+pub nothing_of : (P : Text → Type 0) → Tails P → (t : Text) → P t → P []
 nothing_of P k [] h = h
 nothing_of P k (b ∷ bs) h = nothing_of P k bs (k b bs h)
 

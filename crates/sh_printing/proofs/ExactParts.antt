@@ -23,7 +23,9 @@ use Rattle.sh_printing.specs.Printable.{is_plain_part, is_expansion, first_is, p
 use Rattle.sh_printing.proofs.BackBytes.{both, isnt, neither, joins, no_join, clear_is, goes_at}
 use Rattle.sh_printing.proofs.ExactBytes.{clear_free, clear_twice, is_stuck, unit_stuck, Ran, literal_ran}
 use Rattle.sh_printing.proofs.ExactRules.{Stepped}
-use Rattle.sh_printing.proofs.ExactStates.{Fine}
+use Rattle.sh_printing.proofs.ExactStates.{Fine, Unjoined, Clean}
+use Rattle.sh_printing.proofs.ExactTails.{clear_ends}
+use Rattle.sh_printing.proofs.ExactBodies.{unjoined_tails, unjoined_after}
 
 -- ---- what stands ahead
 
@@ -187,17 +189,11 @@ quoted_is (b ∷ bs) =
     (λ f. then (λ (x : Text × Text). Quoted bs x.0 x.1) (λ (x : Text × Text). Quoted (b ∷ bs) x.0 x.1) (quoted_run bs) _ (quoted_is bs)
       (λ x h. record { each = rw (e, f) h.each; is = ap (λ (z : Text). b ∷ z) h.is })))
 
-keeps_clear : (t : Text) → is_unjoined false t ≡ true → joins t ≡ false
-keeps_clear [] e = refl
-keeps_clear (b ∷ bs) e = isnt (is_join b bs) (both (not (is_join b bs)) (is_unjoined (b == 92) bs) e).0
-
 -- what is quoted has no joins where there are none
-pub quoted_kept : (i : Bool) (bytes text rest : Text) → keeps i bytes ≡ true → clear bytes ≡ 39 ∷ (text ++ 39 ∷ rest) → keeps i text ≡ true
+pub quoted_kept : (i : Bool) (bytes text rest : Text) → Clean i bytes → clear bytes ≡ 39 ∷ (text ++ 39 ∷ rest) → keeps i text ≡ true
 quoted_kept false bytes text rest e is = refl
 quoted_kept true bytes text rest e is =
-    let same : bytes ≡ 39 ∷ (text ++ 39 ∷ rest) = sym (clear_is bytes (keeps_clear bytes e)) ∙ is in
-    let u : is_unjoined false (39 ∷ (text ++ 39 ∷ rest)) ≡ true = subst (λ (z : Text). is_unjoined false z ≡ true) same e in
-    front_kept false text (39 ∷ rest) (both (not (is_join 39 (text ++ 39 ∷ rest))) (is_unjoined false (text ++ 39 ∷ rest)) u).1
+    front_kept false text (39 ∷ rest) (unjoined_after 39 (text ++ 39 ∷ rest) (subst Unjoined is (clear_ends Unjoined unjoined_tails bytes e.0)) refl)
 
 or_second : (a b : Bool) → b ≡ true → (a || b) ≡ true
 or_second true b e = refl

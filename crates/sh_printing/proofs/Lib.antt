@@ -12,6 +12,7 @@ pub mod ExactRedirects
 pub mod ExactTails
 pub mod ExactBodies
 pub mod ExactLines
+pub mod ExactKeeps
 pub mod ExactNodes
 pub mod ExactParams
 pub mod ExactParts
