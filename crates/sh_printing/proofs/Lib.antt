@@ -13,6 +13,7 @@ pub mod ExactTails
 pub mod ExactBodies
 pub mod ExactLines
 pub mod ExactKeeps
+pub mod ExactInvariants
 pub mod ExactNodes
 pub mod ExactParams
 pub mod ExactParts
