@@ -25,13 +25,13 @@ use Rattle.sh_printing.proofs.ExactKeeps.{step_leaves}
 
 -- ---- steps that leave all but the bytes and the sums
 
-record Steady (s m : State) : Type 0 where
-  named : m.named ≡ s.named
-  found : m.found ≡ s.found
-  owed : m.owed ≡ s.owed
-  depth : m.depth ≡ s.depth
+pub record Steady (s m : State) : Type 0 where
+  pub named : m.named ≡ s.named
+  pub found : m.found ≡ s.found
+  pub owed : m.owed ≡ s.owed
+  pub depth : m.depth ≡ s.depth
 
-abbrev IsSteady : State → Read → Type 0
+abbrev pub IsSteady : State → Read → Type 0
 IsSteady s o = If (λ (x : Leaf Node × State). Steady s x.1) o
 
 same : (s m : State) → m.named ≡ s.named → m.found ≡ s.found → m.owed ≡ s.owed → m.depth ≡ s.depth → Steady s m
@@ -86,14 +86,14 @@ copy_steady s (LessAnd, rest) = any s (word_place rest) _ (λ place. copied_stea
 copy_steady s (GreatAnd, rest) = any s (word_place rest) _ (λ place. copied_steady s copy_out place)
 copy_steady s x = tt
 
-abbrev is_steady : Step → Bool
+abbrev pub is_steady : Step → Bool
 is_steady line = false
 is_steady here = false
 is_steady enter = false
 is_steady leave = false
 is_steady p = true
 
-steady : (k : Known) (p : Step) (s : State) → is_steady p ≡ true → IsSteady s (run_step k p s)
+pub steady : (k : Known) (p : Step) (s : State) → is_steady p ≡ true → IsSteady s (run_step k p s)
 unfolding run_step
 steady k (op o) s e = either s (is_token o s.bytes) _ _ (same s _ refl refl refl refl) tt
 steady k (key w) s e = either s (is_key w s.bytes) _ _ (same s _ refl refl refl refl) tt

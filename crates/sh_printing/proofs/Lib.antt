@@ -14,6 +14,7 @@ pub mod ExactBodies
 pub mod ExactLines
 pub mod ExactKeeps
 pub mod ExactInvariants
+pub mod ExactBack
 pub mod ExactNodes
 pub mod ExactParams
 pub mod ExactParts
