@@ -95,7 +95,7 @@ escapes_backslash in_quoted_brace = refl
 escapes_backslash in_body_brace = refl
 escapes_backslash in_body_pattern = refl
 
-backslash_bare : (c : Context) (bs : Text) → is_literal c 92 bs ≡ true → is_bare_backslash c bs ≡ true
+pub backslash_bare : (c : Context) (bs : Text) → is_literal c 92 bs ≡ true → is_bare_backslash c bs ≡ true
 unfolding is_literal is_plain is_active
 backslash_bare in_word bs e = e
 backslash_bare in_double bs e = e
@@ -106,7 +106,7 @@ backslash_bare in_body_brace bs e = e
 backslash_bare in_body_pattern bs e = e
 
 -- a backslash that stands for itself stands before no join
-bare_free : (c : Context) (bs : Text) → is_bare_backslash c bs ≡ true → joins bs ≡ false
+pub bare_free : (c : Context) (bs : Text) → is_bare_backslash c bs ≡ true → joins bs ≡ false
 bare_free c [] e = refl
 bare_free c (y ∷ ys) e =
     let n = neither (is_escaped c y) (y == 0) (isnt (is_escaped c y || y == 0) e) in

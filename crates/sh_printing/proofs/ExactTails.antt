@@ -167,7 +167,7 @@ param_ends P k (b ∷ bs) h =
     let R = Rest {A = Param} P in
     chosen_some R (begins_name b) _ _ (name_ends P k (b ∷ bs) h) (chosen_some R (is_digit b) _ _ (k b bs h) (special_ends P b bs (k b bs h)))
 
-long_ends : (P : Text → Type 0) → Tails P → (t : Text) → P t → If (Rest {A = Param} P) (long_param_at t)
+pub long_ends : (P : Text → Type 0) → Tails P → (t : Text) → P t → If (Rest {A = Param} P) (long_param_at t)
 unfolding long_param_at
 long_ends P k [] h = tt
 long_ends P k (b ∷ bs) h =
@@ -196,7 +196,7 @@ operator_ends P k p (b ∷ bs) h =
     (chosen_some R (b == 35) _ _ (trims_ends P k p false 35 (clear bs) j)
     (chosen_some R (b == 37) _ _ (trims_ends P k p true 37 (clear bs) j) (fills_ends P k p false (b ∷ bs) h))))
 
-tail_ends : (P : Text → Type 0) → Tails P → (t : Text) → P t → P (tail t)
+pub tail_ends : (P : Text → Type 0) → Tails P → (t : Text) → P t → P (tail t)
 tail_ends P k [] h = h
 tail_ends P k (b ∷ bs) h = k b bs h
 

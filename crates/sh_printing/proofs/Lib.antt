@@ -15,6 +15,7 @@ pub mod ExactLines
 pub mod ExactKeeps
 pub mod ExactInvariants
 pub mod ExactBack
+pub mod ExactLast
 pub mod ExactNodes
 pub mod ExactParams
 pub mod ExactParts
