@@ -154,10 +154,10 @@ back_at k F B ok (node q t) (rule r) s e a f b = back_at k F B ok t (body r) s e
 back_at k F B ok t g s e h f b = absurd h
 
 -- the depth behind a grammar that ends each level that it begins
-abbrev Deep : Known → Type 0
+abbrev pub Deep : Known → Type 0
 Deep k = (p : Step) (s e : State) (x : Leaf Node) → run_step k p s ≡ Some (x, e) → e.depth ≡ step_depth p s.depth
 
-abbrev EachEven : Type 0
+abbrev pub EachEven : Type 0
 EachEven = (r : Rule) → (is_even (body r) ≡ true) × ((d : ℕ) → after (body r) d ≡ d)
 
 depth_at : (k : Known) → Deep k → EachEven → (t : Tree Rule Node) (g : Gram) (s e : State) → is_even g ≡ true → At (knowing k) t g s e → e.depth ≡ after g s.depth
@@ -182,7 +182,7 @@ depth_at k deep even t g s e v h = absurd h
 abbrev pub Closed : Known → (State → Type 0) → Claim → Type 0
 Closed k Fine Q = (r : Rule) (d : ℕ) (s e : State) (vs : List Node) → s.depth ≡ d → Fine s → Fine e → Sat k Fine Q (body r) d s e vs → Q r d s e (act r vs)
 
-sat_at : (k : Known) (F B : State → Type 0) (Q : Claim) → Keeps k F B → Deep k → EachEven → Closed k (All F B) Q →
+pub sat_at : (k : Known) (F B : State → Type 0) (Q : Claim) → Keeps k F B → Deep k → EachEven → Closed k (All F B) Q →
     (t : Tree Rule Node) (g : Gram) (d : ℕ) (s e : State) → is_even g ≡ true → s.depth ≡ d → F s → B e → At (knowing k) t g s e → Sat k (All F B) Q g d s e (kids (knowing k) t)
 sat_at k F B Q ok deep even closed empty pass d s e v i f b h = (h, refl)
 sat_at k F B Q ok deep even closed empty (star p g) d s e v i f b h = (zero, (h.0, h.1, refl))

@@ -6,6 +6,7 @@ pub mod ExactWords
 pub mod ExactFirst
 pub mod ExactLists
 pub mod ExactCompound
+pub mod ExactScripts
 pub mod ExactSimple
 pub mod ExactFunctions
 pub mod ExactRedirects
@@ -14,6 +15,7 @@ pub mod ExactBodies
 pub mod ExactLines
 pub mod ExactKeeps
 pub mod ExactInvariants
+pub mod ExactAll
 pub mod ExactBack
 pub mod ExactLast
 pub mod ExactNodes
