@@ -1,6 +1,7 @@
 pub mod ExactBytes
 pub mod ExactClaims
 pub mod ExactSteps
+pub mod ExactEnding
 pub mod ExactExpansions
 pub mod ExactWords
 pub mod ExactFirst
