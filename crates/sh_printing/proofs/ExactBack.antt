@@ -23,28 +23,28 @@ use Rattle.sh_printing.proofs.ExactInvariants.{Steady, IsSteady, is_steady, stea
 -- ---- a token by its first byte
 
 -- It isn't this one: its number is another, but where the first byte is that of a newline or of a closing parenthesis.
-abbrev Isnt : ℕ → Op × Text → Type 0
+abbrev pub Isnt : ℕ → Op × Text → Type 0
 Isnt n x = (code x.0 == n) ≡ false
 
 not_after : (n k : ℕ) (t : Text) (longer : Text → Op × Text) (shorter : Op × Text) → ((u : Text) → Isnt n (longer u)) → Isnt n shorter → Isnt n (after_byte k t longer shorter)
 not_after n k [] longer shorter h e = e
 not_after n k (b ∷ bs) longer shorter h e = chosen (Isnt n) (b == k) (longer bs) shorter (h bs) e
 
-not_on : (n k : ℕ) (t : Text) (longer : Text → Op × Text) (shorter : Op × Text) → ((u : Text) → Isnt n (longer u)) → Isnt n shorter → Isnt n (goes_on_with k t longer shorter)
+pub not_on : (n k : ℕ) (t : Text) (longer : Text → Op × Text) (shorter : Op × Text) → ((u : Text) → Isnt n (longer u)) → Isnt n shorter → Isnt n (goes_on_with k t longer shorter)
 not_on n k t longer shorter h e = not_after n k (clear t) longer shorter h e
 
 -- the number of none of these
-record Others (n : ℕ) : Type 0 where
-  semi : (t : Text) → Isnt n (semi_at t)
-  and' : (t : Text) → Isnt n (and_at t)
-  pipe : (t : Text) → Isnt n (pipe_at t)
-  less : (t : Text) → Isnt n (less_at t)
-  great : (t : Text) → Isnt n (great_at t)
-  word : (t : Text) → Isnt n (word_at t)
-  open' : (t : Text) → Isnt n (Open, t)
-  other : (t : Text) → Isnt n (Other, t)
+pub record Others (n : ℕ) : Type 0 where
+  pub semi : (t : Text) → Isnt n (semi_at t)
+  pub and' : (t : Text) → Isnt n (and_at t)
+  pub pipe : (t : Text) → Isnt n (pipe_at t)
+  pub less : (t : Text) → Isnt n (less_at t)
+  pub great : (t : Text) → Isnt n (great_at t)
+  pub word : (t : Text) → Isnt n (word_at t)
+  pub open' : (t : Text) → Isnt n (Open, t)
+  pub other : (t : Text) → Isnt n (Other, t)
 
-front_other : (n : ℕ) → Others n → (b : ℕ) (bs : Text) → ((b == 10) ≡ true → Isnt n (Newline, bs)) → ((b == 41) ≡ true → Isnt n (Close, bs)) → Isnt n (front (b ∷ bs))
+pub front_other : (n : ℕ) → Others n → (b : ℕ) (bs : Text) → ((b == 10) ≡ true → Isnt n (Newline, bs)) → ((b == 41) ≡ true → Isnt n (Close, bs)) → Isnt n (front (b ∷ bs))
 unfolding front
 front_other n o b bs h g =
     chosen_by (Isnt n) (b == 10) _ _ h

@@ -85,7 +85,7 @@ unit_stuck c (b ∷ bs) e = apart_stuck c b (is_stuck c b) refl e
 
 -- ---- runs
 
-escapes_backslash : (c : Context) → is_escaped c 92 ≡ true
+pub escapes_backslash : (c : Context) → is_escaped c 92 ≡ true
 unfolding is_escaped
 escapes_backslash in_word = refl
 escapes_backslash in_double = refl

@@ -46,7 +46,7 @@ no_more k t l n e = true≢false (sym (subst (λ (z : Text). is_lines (k ∷ z) 
 solid_after : (k : ℕ) (t : Text) → Clean true (k ∷ t) → (k == 92) ≡ false → (k == 10) ≡ false → Solid t
 solid_after k t c n m = (unjoined_after k t c.0 n, no_more k t c.1 m)
 
-solid_behind : (k : ℕ) (t rest : Text) → Clean true t → clear t ≡ k ∷ rest → (k == 92) ≡ false → (k == 10) ≡ false → Solid rest
+pub solid_behind : (k : ℕ) (t rest : Text) → Clean true t → clear t ≡ k ∷ rest → (k == 92) ≡ false → (k == 10) ≡ false → Solid rest
 solid_behind k t rest c h n m = solid_after k rest (subst (Clean true) h (clear_ends (Clean true) (clean_tails true) t c)) n m
 
 -- ---- runs and parameters
@@ -150,14 +150,14 @@ dollar_head_unjoined t u =
 -- ---- steps
 
 -- what is kept: ends of a body that is expanded
-abbrev Ends : State → Type 0
+abbrev pub Ends : State → Type 0
 Ends = All (Forth true) (λ s. Unit {0})
 
 both_if : {A : Type 0} (P Q : A → Type 0) (o : Option A) → If P o → If Q o → If (λ x. P x × Q x) o
 both_if P Q None h i = tt
 both_if P Q (Some x) h i = (h, i)
 
-solid_dollar : {k : Known} {d : ℕ} {s e : State} {vs : List Node} → Clean true s.bytes → Stepped k Ends table.dollar d s e vs → Solid e.bytes
+pub solid_dollar : {k : Known} {d : ℕ} {s e : State} {vs : List Node} → Clean true s.bytes → Stepped k Ends table.dollar d s e vs → Solid e.bytes
 unfolding run_step
 solid_dollar {s = s} c st =
     by_step (λ (m : State) (ws : List Node). Solid m.bytes)
@@ -169,7 +169,7 @@ closed_solid s (closed_head p o, rest) u l = (u, l)
 closed_solid s (filling p t c, rest) u l = tt
 closed_solid s (trimming p x l, rest) u m = tt
 
-solid_closed : {k : Known} {d : ℕ} {s e : State} {vs : List Node} → Clean true s.bytes → Stepped k Ends table.closed d s e vs → Solid e.bytes
+pub solid_closed : {k : Known} {d : ℕ} {s e : State} {vs : List Node} → Clean true s.bytes → Stepped k Ends table.closed d s e vs → Solid e.bytes
 unfolding run_step
 solid_closed {s = s} c st =
     by_step (λ (m : State) (ws : List Node). Solid m.bytes)
@@ -177,13 +177,13 @@ solid_closed {s = s} c st =
       (then (λ (x : Head × Text). ClosedUnquoted x × ClosedEnds x) (λ (x : Leaf Node × State). Solid x.1.bytes) (dollar_head s.bytes) _
         (both_if ClosedUnquoted ClosedEnds (dollar_head s.bytes) (dollar_head_unjoined s.bytes c.0) (dollar_head_last s.bytes c)) (λ x h. closed_solid s x h.0 h.1)) tt) st
 
-solid_quote : {k : Known} {d : ℕ} {s e : State} {vs : List Node} → Clean true s.bytes → Stepped k Ends table.quote d s e vs → Solid e.bytes
+pub solid_quote : {k : Known} {d : ℕ} {s e : State} {vs : List Node} → Clean true s.bytes → Stepped k Ends table.quote d s e vs → Solid e.bytes
 unfolding run_step
 solid_quote {s = s} c st =
     by_step (λ (m : State) (ws : List Node). Solid m.bytes)
     (then (λ (z : Text). clear s.bytes ≡ 34 ∷ z) (λ (x : Leaf Node × State). Solid x.1.bytes) (behind 34 (clear s.bytes)) _ (behind_is 34 (clear s.bytes)) (λ rest h. solid_behind 34 s.bytes rest c h refl refl)) st
 
-solid_brace : {k : Known} {d : ℕ} {s e : State} {vs : List Node} → Clean true s.bytes → Stepped k Ends table.close_brace d s e vs → Solid e.bytes
+pub solid_brace : {k : Known} {d : ℕ} {s e : State} {vs : List Node} → Clean true s.bytes → Stepped k Ends table.close_brace d s e vs → Solid e.bytes
 unfolding run_step
 solid_brace {s = s} c st =
     by_step (λ (m : State) (ws : List Node). Solid m.bytes)
@@ -192,7 +192,7 @@ solid_brace {s = s} c st =
 solid_token : (t : Text) → Clean true t → is_token Close t ≡ true → Solid (token t).1
 solid_token t c e = solid_after 41 (token t).1 (subst (Clean true) (close_token t e) (gap_ends (Clean true) (clean_tails true) t c)) refl refl
 
-solid_close : {k : Known} {d : ℕ} {s e : State} {vs : List Node} → Clean true s.bytes → Stepped k Ends (table.op Close) d s e vs → Solid e.bytes
+pub solid_close : {k : Known} {d : ℕ} {s e : State} {vs : List Node} → Clean true s.bytes → Stepped k Ends (table.op Close) d s e vs → Solid e.bytes
 unfolding run_step
 solid_close {s = s} c st =
     by_step (λ (m : State) (ws : List Node). Solid m.bytes) (chosen_by (If (λ (x : Leaf Node × State). Solid x.1.bytes)) (is_token Close s.bytes) _ _ (λ t. solid_token s.bytes c t) (λ t. tt)) st
@@ -211,11 +211,11 @@ expr_solid : (s : State) (rest : Text) (o : Option Expr) → Solid rest → If (
 expr_solid s rest None h = tt
 expr_solid s rest (Some e) h = h
 
-solid_sum : {k : Known} {d : ℕ} {s e : State} {vs : List Node} → Clean true s.bytes → Stepped k Ends table.close_sum d s e vs → Solid e.bytes
+pub solid_sum : {k : Known} {d : ℕ} {s e : State} {vs : List Node} → Clean true s.bytes → Stepped k Ends table.close_sum d s e vs → Solid e.bytes
 unfolding run_step
 solid_sum {s = s} c st =
     by_step (λ (m : State) (ws : List Node). Solid m.bytes) (then Solid (λ (x : Leaf Node × State). Solid x.1.bytes) (behind_two 41 41 s.bytes) _ (solid_two s.bytes c) (λ rest h. expr_solid s rest (innermost s.sums) h)) st
 
-leaves_bytes : {k : Known} {d : ℕ} {s e : State} {vs : List Node} → Stepped k Ends table.leave d s e vs → s.bytes ≡ e.bytes
+pub leaves_bytes : {k : Known} {d : ℕ} {s e : State} {vs : List Node} → Stepped k Ends table.leave d s e vs → s.bytes ≡ e.bytes
 unfolding run_step
 leaves_bytes {s = s} st = by_step (λ (m : State) (ws : List Node). s.bytes ≡ m.bytes) refl st

@@ -1,4 +1,4 @@
--- What some text spells can be printed, where arithmetic expansions are as they should be.
+-- What some text spells can be printed, where arithmetic expansions fit.
 use Rattle.std.proofs.Common.{◌≡◌, ℕ, zero, suc, Bool, true, false, List, [], ◌∷◌, ◌++◌, Option, Some, None, refl, sym, ap, subst, ◌∙◌, append-nil}
 use Rattle.std.specs.Prelude.{◌&&◌}
 use Rattle.std.specs.List.{list_all}
@@ -28,6 +28,7 @@ use Rattle.sh_printing.proofs.ExactStates.{Forth, Back, is_lines}
 use Rattle.sh_printing.proofs.ExactNodes.{each_of, is_chain, chains_fit}
 use Rattle.sh_printing.proofs.ExactRedirects.{Expands}
 use Rattle.sh_printing.proofs.ExactAll.{Held, says_at}
+use Rattle.sh_printing.proofs.ExactEnds.{ending}
 
 -- ---- where nothing is owed
 
@@ -90,10 +91,9 @@ all_came (suc n) i e o = record { later = []; whole = sym (append-nil e.found); 
 
 -- ---- bodies in bodies
 
--- What is still to be said: arithmetic expansions fit, and the last part of a body ends it.
-pub record Rest : Type 1 where
-  pub held : (k : Known) (i : Bool) → Held k i
-  pub ending : (k : Known) (d : ℕ) (text : Text) (t : Tree Rule Node) (e : State) → keeps true text ≡ true → is_lines text ≡ true → At (knowing k) t (rule body_parts) (start_at d text) e → ends_line (word_in (kids (knowing k) t)) ≡ true
+-- What is said of each rule so that an arithmetic expansion fits, whatever is known of here-documents.
+abbrev pub Helds : Type 1
+Helds = (k : Known) (i : Bool) → Held k i
 
 abbrev PartsFit : ℕ → shape.Parts → Type 0
 PartsFit d ps = (ends_line ps ≡ true) × (parts_fit true d in_body ps ≡ true)
@@ -102,13 +102,13 @@ begins : (d : ℕ) (text : Text) → keeps true text ≡ true → is_lines text 
 begins d text u l = record { clean = ((false, u), l); counted = refl }
 
 -- a body that was read to its end fits
-body_says : (m : Rest) (n d : ℕ) (text : Text) (e : State) (t : Tree Rule Node) → keeps true text ≡ true → is_lines text ≡ true → Expands (known_in n e.found) → At (knowing (known_in n e.found)) t (rule body_parts) (start_at d text) e → PartsFit d (word_in (kids (knowing (known_in n e.found)) t))
+body_says : (m : Helds) (n d : ℕ) (text : Text) (e : State) (t : Tree Rule Node) → keeps true text ≡ true → is_lines text ≡ true → Expands (known_in n e.found) → At (knowing (known_in n e.found)) t (rule body_parts) (start_at d text) e → PartsFit d (word_in (kids (knowing (known_in n e.found)) t))
 body_says m n d text e t u l x a =
     let k = known_in n e.found in
-    let o = says_at k true x (m.held k true) t body_parts d (start_at d text) e refl (begins d text u l) (all_came n true e (body_owed k t (start_at d text) e a)) a in
-    (m.ending k d text t e u l a, subst (λ (z : List Node). parts_fit true d in_body (word_in z) ≡ true) (sym o.is) o.fits)
+    let o = says_at k true x (m k true) t body_parts d (start_at d text) e refl (begins d text u l) (all_came n true e (body_owed k t (start_at d text) e a)) a in
+    (ending k d text t e u l a, subst (λ (z : List Node). parts_fit true d in_body (word_in z) ≡ true) (sym o.is) o.fits)
 
-second_says : (m : Rest) (n d : ℕ) (text : Text) (x y : List Node × State) → keeps true text ≡ true → is_lines text ≡ true → ((found : List Text) → Expands (known_in n found)) →
+second_says : (m : Helds) (n d : ℕ) (text : Text) (x y : List Node × State) → keeps true text ≡ true → is_lines text ≡ true → ((found : List Text) → Expands (known_in n found)) →
     vals (sh n []) (rule body_parts) (start_at d text) ≡ Some x → vals (sh n x.1.found) (rule body_parts) (start_at d text) ≡ Some y → PartsFit d (word_in y.0)
 second_says m n d text x y u l h p q =
     let a = vals_sound (sh n []) (rule body_parts) (start_at d text) x p in
@@ -122,7 +122,7 @@ if_each : {A : Type 0} (P : A → Type 0) (o : Option A) → ((x : A) → o ≡ 
 if_each P None h = tt
 if_each P (Some x) h = h x refl
 
-expand_fits : (m : Rest) (n d : ℕ) (text : Text) → keeps true text ≡ true → is_lines text ≡ true → ((found : List Text) → Expands (known_in n found)) → If (PartsFit d) (expand_in n d text)
+expand_fits : (m : Helds) (n d : ℕ) (text : Text) → keeps true text ≡ true → is_lines text ≡ true → ((found : List Text) → Expands (known_in n found)) → If (PartsFit d) (expand_in n d text)
 expand_fits m n d text u l h =
     then (λ (x : List Node × State). vals (sh n []) (rule body_parts) (start_at d text) ≡ Some x) (PartsFit d) (vals (sh n []) (rule body_parts) (start_at d text)) _
     (if_each (λ x. vals (sh n []) (rule body_parts) (start_at d text) ≡ Some x) (vals (sh n []) (rule body_parts) (start_at d text)) (λ x e. e))
@@ -130,7 +130,7 @@ expand_fits m n d text u l h =
       (if_each (λ y. vals (sh n x.1.found) (rule body_parts) (start_at d text) ≡ Some y) (vals (sh n x.1.found) (rule body_parts) (start_at d text)) (λ y e. e))
       (λ y q. second_says m n d text x y u l h p q))
 
-expands_at : (m : Rest) (n : ℕ) (bodies : List Text) → Expands (known_in n bodies)
+expands_at : (m : Helds) (n : ℕ) (bodies : List Text) → Expands (known_in n bodies)
 expands_at m zero bodies d text u l = tt
 expands_at m (suc n) bodies d text u l = expand_fits m n d text u l (λ found. expands_at m n found)
 
@@ -151,18 +151,18 @@ sh_kids n bodies j t = subst (λ (w : Lang). kids w t ≡ kids (knowing j) t) (s
 starts_here : (s : State) → Forth false (fresh s)
 starts_here s = record { clean = tt; counted = refl }
 
-piece_chains : (m : Rest) (n : ℕ) (t : Tree Rule Node) (s e : State) → At (sh n e.found) t (rule piece) (fresh s) e → list_all (is_chain false 0) (kids (sh n []) t) ≡ true
+piece_chains : (m : Helds) (n : ℕ) (t : Tree Rule Node) (s e : State) → At (sh n e.found) t (rule piece) (fresh s) e → list_all (is_chain false 0) (kids (sh n []) t) ≡ true
 piece_chains m n t s e a =
     let k = known_in n e.found in
     let b : At (knowing k) t (rule piece) (fresh s) e = subst (λ (w : Lang). At w t (rule piece) (fresh s) e) (sh_knows n e.found) a in
-    let o = says_at k false (expands_at m n e.found) (m.held k false) t piece 0 (fresh s) e refl (starts_here s) (all_came n false e (piece_owed k t (fresh s) e b)) b in
+    let o = says_at k false (expands_at m n e.found) (m k false) t piece 0 (fresh s) e refl (starts_here s) (all_came n false e (piece_owed k t (fresh s) e b)) b in
     subst (λ (z : List Node). list_all (is_chain false 0) z ≡ true) (sym (sh_kids n [] k t)) o
 
-pieces_chains : (m : Rest) (ts : List (Tree Rule Node)) (s e : State) → FrontAt PieceAt ts s e → list_all (is_chain false 0) (chains_of ts) ≡ true
+pieces_chains : (m : Helds) (ts : List (Tree Rule Node)) (s e : State) → FrontAt PieceAt ts s e → list_all (is_chain false 0) (chains_of ts) ≡ true
 pieces_chains m [] s e f = refl
 pieces_chains m (t ∷ ts) s e f = each_of (is_chain false 0) (kids (sh_with []) t) (chains_of ts) (piece_chains m levels t s f.0 f.1) (pieces_chains m ts f.0 e f.2)
 
 -- what some text spells can be printed
-pub spelled_fits : Rest → (text : Text) (s : shape.Script) → Reads text s → script_printable s ≡ true
+pub spelled_fits : Helds → (text : Text) (s : shape.Script) → Reads text s → script_printable s ≡ true
 spelled_fits m text s r =
     subst (λ (z : shape.Script). list_fits false 0 z ≡ true) r.is (chains_fit false 0 (chains_of r.pieces) (pieces_chains m r.pieces (start_at 0 text) r.end r.reads))
