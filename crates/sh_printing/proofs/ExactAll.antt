@@ -1,16 +1,15 @@
 -- What is said of each rule holds: the induction over derivations, but for arithmetic expansions, of which more has to be said.
-use Rattle.std.proofs.Common.{◌≡◌, ℕ, zero, suc, Bool, true, false, List, [], ◌∷◌, ◌++◌, ◌⊎◌, inl, inr, refl, sym, ap, subst, ◌∙◌}
-use Rattle.text_grammar.specs.Grammar.{Grammar, pass, fail, step, seq, choose, star, rule}
+use Rattle.std.proofs.Common.{◌≡◌, ℕ, zero, suc, Bool, true, false, List, [], ◌∷◌, inl, inr, refl, sym, subst}
+use Rattle.text_grammar.specs.Grammar.{pass, fail, step, seq, choose, star, rule}
 use Rattle.text_grammar.specs.Derivations.{Tree, At}
 use Rattle.text_grammar.specs.Values.{kids}
-use Rattle.sh_grammar.specs.State.{State, Node, word_node, parts_in}
+use Rattle.sh_grammar.specs.State.{State, Node, parts_in}
 use Rattle.std.specs.Prelude.{◌||◌, not, ◌==◌}
 use Rattle.sh_grammar.specs.Bytes.{Text, in_body, clear, starts, is_escaped, is_plain, is_active}
 use Rattle.sh_grammar.specs.Steps.{Known}
 use Rattle.sh_grammar.specs.Table.{Test, Rule, Gram, piece, line_piece, complete, complete_more, list, maybe_list, list_more, lines, chain, link, and_link, or_link, pipeline, bang, stage, command, compound_command, compound, other_compound, group, subshell, if_command, if_branch, elif_branch, else_part, while_loop, until_loop, do_body, for_loop, for_words, for_in, case_command, case_in, case_item, pattern_more, item_end, function_command, simple_command, prefixed, called, suffix, prefix_item, suffix_item, assign, redirect, target, file, word, value, word_parts, more_parts, pattern, part, double_quotes, expansion, braces, fill, trim, subst as substitution, sum, sum_part, sum_group, body_parts, body, ends}
 use Rattle.sh_grammar.specs.Acts.{act}
 use Rattle.sh_grammar.specs.Spelling.{knowing}
-use Rattle.sh_grammar.specs.Tokens as tokens
 use Rattle.sh_printing.specs.Printable.{parts_fit}
 use Rattle.sh_printing.proofs.ExactRules.{Reading, Claim, Stepped, Both, Turns, Ruled, Sat, All, is_even, sat_at}
 use Rattle.sh_printing.proofs.ExactBytes.{is_stuck}
@@ -18,7 +17,7 @@ use Rattle.sh_printing.proofs.ExactStates.{Forth, Back, Fine}
 use Rattle.sh_printing.proofs.ExactInvariants.{deep, even}
 use Rattle.sh_printing.proofs.ExactBack.{keeps}
 use Rattle.sh_printing.proofs.ExactSteps.{nothing_said, stop}
-use Rattle.sh_printing.proofs.ExactClaims.{One, Says}
+use Rattle.sh_printing.proofs.ExactClaims.{Says}
 use Rattle.sh_printing.proofs.ExactExpansions.{parts_turns, double_quotes_says, fill_rule, trim_rule, braces_rule, subst_rule, expansion_rule, part_rule}
 use Rattle.sh_printing.proofs.ExactWords.{more_parts_rule, word_parts_rule}
 use Rattle.sh_printing.proofs.ExactFirst.{word_rule, value_rule, pattern_rule}

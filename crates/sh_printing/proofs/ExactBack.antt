@@ -1,16 +1,16 @@
 -- The bodies that come are those that were named: what is kept from right to left.
-use Rattle.std.proofs.Common.{◌≡◌, ℕ, zero, suc, Bool, true, false, cond, List, [], ◌∷◌, ◌++◌, length, Option, Some, None, refl, sym, ap, subst, ◌∙◌, append_assoc, eqb-true}
-use Rattle.std.specs.Prelude.{◌||◌, ◌&&◌, not, ◌==◌, nat_lt}
+use Rattle.std.proofs.Common.{◌≡◌, ℕ, Bool, true, false, List, [], ◌∷◌, ◌++◌, length, Option, Some, None, refl, sym, ap, subst, ◌∙◌, append_assoc, eqb-true}
+use Rattle.std.specs.Prelude.{◌==◌, nat_lt}
 use Rattle.std.proofs.lemmas.Bool.{false≢true, true≢false}
-use Rattle.text_grammar.specs.Grammar.{Leaf, quiet, said}
+use Rattle.text_grammar.specs.Grammar.{Leaf}
 use Rattle.sh_grammar.specs.Bytes.{Text, clear, gap, in_word, digit_run, starts, unit_starts}
 use Rattle.span_text.specs.Names.{is_digit}
-use Rattle.sh_grammar.specs.Tokens.{Op, End, Newline, Semi, SemiSemi, AndIf, OrIf, Pipe, Open, Close, Less, Great, DGreat, DLess, DLessDash, LessAnd, GreatAnd, Io, Word, Other, code, after_byte, goes_on_with, semi_at, and_at, pipe_at, here_at, less_at, great_at, is_angle, digits_word, word_at, front, token, is_token}
+use Rattle.sh_grammar.specs.Tokens.{Op, Newline, Open, Close, DLess, DLessDash, Other, code, after_byte, goes_on_with, semi_at, and_at, pipe_at, here_at, less_at, great_at, is_angle, word_at, front, token, is_token}
 use Rattle.sh_grammar.specs.Expansions.{◌>>=◌}
 use Rattle.sh_grammar.specs.Bodies.{Owed, delimiter_for, bodies_at}
 use Rattle.sh_grammar.specs.State.{State, Node}
 use Rattle.sh_grammar.specs.Table.{Step, line, here, enter, leave}
-use Rattle.sh_grammar.specs.Steps.{Known, limit, Read, word_place, here_node, here_after, here_read, line_read, run_step}
+use Rattle.sh_grammar.specs.Steps.{Known, limit, Read, word_place, here_node, here_read, run_step}
 use Rattle.sh_grammar.proofs.Tools.{If, then, chosen, chosen_by, if_some}
 use Rattle.sh_printing.specs.Spellable.{is_unjoined}
 use Rattle.sh_printing.proofs.ExactRules.{Keeps}
@@ -18,7 +18,7 @@ use Rattle.sh_printing.proofs.ExactStates.{Forth, Back, Owes, Unjoined, Clean}
 use Rattle.sh_printing.proofs.ExactTails.{gap_ends}
 use Rattle.sh_printing.proofs.ExactBodies.{unjoined_tails, unjoined_after}
 use Rattle.sh_printing.proofs.ExactLines.{Bodies, bodies_fit}
-use Rattle.sh_printing.proofs.ExactInvariants.{Steady, IsSteady, is_steady, steady, forth}
+use Rattle.sh_printing.proofs.ExactInvariants.{Steady, IsSteady, steady, forth}
 
 -- ---- a token by its first byte
 

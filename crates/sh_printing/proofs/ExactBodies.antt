@@ -1,18 +1,12 @@
 -- Bodies of here-documents that were read: lines without NUL, and without joins where they are to have none.
-use Rattle.std.proofs.Common.{◌≡◌, ℕ, zero, suc, ◌+◌, Bool, true, false, cond, List, [], ◌∷◌, ◌++◌, length, Option, Some, None, refl, sym, ap, subst, ◌∙◌, arith, eqb-true}
+use Rattle.std.proofs.Common.{◌≡◌, ℕ, Bool, true, false, cond, [], ◌∷◌, Option, Some, None, refl, subst, eqb-true}
 use Rattle.std.specs.Prelude.{◌||◌, ◌&&◌, not, ◌==◌}
-use Rattle.std.specs.List.{list_all}
-use Rattle.std.proofs.lemmas.Bool.{false≢true, true≢false}
-use Rattle.span_text.proofs.Bytes.{apart}
 use Rattle.sh_grammar.specs.Bytes.{Text, is_join, in_word, in_double, is_plain, is_escaped, starts, unit_starts}
-use Rattle.sh_grammar.specs.Expansions.{◌>>=◌}
-use Rattle.sh_grammar.specs.Bodies.{Owed, Mode, bare, single, doubled, kept, kept_doubled, joined, joined_doubled, Read, quoted, with, opens_expansion, delimiter_from, delimiter_at, delimiter_for, may_end, line_from, Place, line_start, within, join_at_start, join_within, kept_byte, last_line, or_further, with_byte, is_start, join_of, behind_byte, body_from, body_at, bodies_at}
-use Rattle.sh_grammar.proofs.Tools.{If, then, chosen, chosen_by, chosen_some}
-use Rattle.sh_grammar.specs.Steps.{literal_parts}
-use Rattle.sh_printing.specs.Spellable.{ends_with, is_unjoined, keeps}
-use Rattle.sh_printing.specs.Printable.{is_body_byte, literal_body}
-use Rattle.sh_printing.proofs.BackBytes.{both, isnt, neither, no_join, and_no}
-use Rattle.sh_printing.proofs.ExactStates.{is_lines, Unjoined, Clean, BodyFits, Owes}
+use Rattle.sh_grammar.specs.Bodies.{Owed, Mode, bare, single, doubled, kept, kept_doubled, joined, joined_doubled, Read, quoted, with, opens_expansion, delimiter_from, delimiter_at, delimiter_for, may_end, line_from, Place, line_start, within, join_at_start, join_within, kept_byte, last_line, or_further, with_byte, is_start, join_of, behind_byte, body_from, body_at}
+use Rattle.sh_grammar.proofs.Tools.{If, then, chosen, chosen_by}
+use Rattle.sh_printing.specs.Spellable.{is_unjoined}
+use Rattle.sh_printing.proofs.BackBytes.{both}
+use Rattle.sh_printing.proofs.ExactStates.{is_lines, Unjoined, Clean}
 use Rattle.sh_printing.proofs.ExactTails.{Tails, Rest}
 
 -- ---- ends of texts without joins

@@ -1,11 +1,11 @@
 -- What a run of bytes that stand for themselves is, when it was read.
-use Rattle.std.proofs.Common.{◌≡◌, ℕ, Bool, true, false, cond, [], ◌∷◌, refl, sym, ap, subst, ◌∙◌, eqb-true}
+use Rattle.std.proofs.Common.{◌≡◌, ℕ, Bool, true, false, cond, [], ◌∷◌, refl, sym, subst, ◌∙◌, eqb-true}
 use Rattle.std.specs.Prelude.{◌||◌, ◌&&◌, not, ◌==◌}
 use Rattle.span_text.proofs.Bytes.{apart}
 use Rattle.sh_grammar.specs.Bytes.{Text, Context, in_word, in_double, in_body, in_brace, in_quoted_brace, in_body_brace, in_body_pattern, is_join, clear_from, clear, starts, with_byte, run_from, expands, is_bare_dollar, is_active, is_plain, is_escaped, has_single, has_double, is_bare_backslash, is_literal, literal_run, begins_unit, unit_starts}
 use Rattle.sh_grammar.proofs.Tools.{chosen_by}
 use Rattle.sh_printing.specs.Spellable.{is_literal_text, ends_with}
-use Rattle.sh_printing.proofs.BackBytes.{both, isnt, neither, joins, no_join, clear_is, goes_at}
+use Rattle.sh_printing.proofs.BackBytes.{isnt, neither, joins, no_join, clear_is, goes_at}
 
 -- ---- joins
 

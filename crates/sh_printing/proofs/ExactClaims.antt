@@ -1,17 +1,15 @@
 -- What each rule gives, so deep: values that fit.
-use Rattle.std.proofs.Common.{◌≡◌, ℕ, Bool, true, false, List, [], ◌∷◌, ◌++◌, Option, None}
+use Rattle.std.proofs.Common.{◌≡◌, ℕ, Bool, true, false, List, [], ◌∷◌, ◌++◌}
 use Rattle.std.specs.Prelude.{◌||◌}
 use Rattle.std.specs.List.{list_all}
-use Rattle.span_text.specs.Names.{is_name}
 use Rattle.sh_grammar.specs.Shape as shape
 use Rattle.sh_grammar.specs.Shape.{plain, exact, double, tilde, param, subst as listing, arith, no_part, part, no_word, word as next_word, no_redirect, redirect as next_redirect}
 use Rattle.sh_grammar.specs.Bytes.{Text, Context, in_word, in_double, in_body, clear, literal_run, unit_starts}
 use Rattle.sh_grammar.specs.Tokens.{redirect_next, name_next, assign_next, simple_next, function_next}
 use Rattle.sh_grammar.specs.Expansions.{filling_next}
-use Rattle.sh_grammar.specs.State.{State, Node, part_node, word_node, aimed_node, redirect_node, assign_node, kind_node, command_node, bang_node, pipeline_node, chain_node, script_node, branch_node, else_node, parts_in, words_in, assigns_in, redirects_in}
-use Rattle.sh_grammar.specs.Table.{Rule, piece, line_piece, complete, complete_more, list, maybe_list, list_more, lines, chain, link, and_link, or_link, pipeline, bang, stage, command, compound_command, compound, other_compound, group, subshell, if_command, if_branch, elif_branch, else_part, while_loop, until_loop, do_body, for_loop, for_words, for_in, case_command, case_in, case_item, pattern_more, item_end, function_command, simple_command, prefixed, called, suffix, prefix_item, suffix_item, assign, redirect, target, file, word, value, word_parts, more_parts, pattern, part as a_part, double_quotes, expansion, braces, fill, trim, subst, sum, sum_part, sum_group, body_parts}
-use Rattle.sh_printing.specs.Printing.{has_assign}
-use Rattle.sh_printing.specs.Printable.{has_part, has_chain, has_redirect, has_compound, is_compound, is_expansion, is_assignment, is_reserved_word, name_fits, part_fits, parts_fit, word_fits, patterns_fit, redirects_fit, kind_fits, command_fits, otherwise_fits, pipeline_fits, chain_fits, list_fits}
+use Rattle.sh_grammar.specs.State.{State, Node, part_node, word_node, kind_node, command_node, bang_node, pipeline_node, chain_node, script_node, else_node, parts_in, words_in, assigns_in, redirects_in}
+use Rattle.sh_grammar.specs.Table.{piece, line_piece, complete, complete_more, list, maybe_list, list_more, lines, chain, link, and_link, or_link, pipeline, bang, stage, command, compound_command, compound, other_compound, group, subshell, if_command, if_branch, elif_branch, else_part, while_loop, until_loop, do_body, for_loop, for_words, for_in, case_command, case_in, case_item, pattern_more, item_end, function_command, simple_command, prefixed, called, suffix, prefix_item, suffix_item, assign, redirect, target, file, word, value, word_parts, more_parts, pattern, part as a_part, double_quotes, expansion, braces, fill, trim, subst, sum, sum_part, sum_group, body_parts}
+use Rattle.sh_printing.specs.Printable.{has_part, has_chain, has_redirect, has_compound, is_compound, is_expansion, is_assignment, is_reserved_word, name_fits, part_fits, parts_fit, word_fits, redirects_fit, kind_fits, command_fits, otherwise_fits, pipeline_fits, chain_fits, list_fits}
 use Rattle.sh_printing.proofs.ExactNodes.{is_chain, is_link, is_stage, is_branch, is_listed, is_item, is_pattern, is_prefix, is_suffix, is_redirect, is_aimed}
 use Rattle.sh_printing.proofs.ExactParts.{Fronts, OnePart, OneExpansion}
 use Rattle.sh_printing.proofs.ExactRules.{Claim}

@@ -1,14 +1,14 @@
 -- Compound commands that were read fit.
-use Rattle.std.proofs.Common.{◌≡◌, ℕ, zero, suc, Bool, true, false, List, [], ◌∷◌, ◌++◌, Option, Some, None, ◌⊎◌, inl, inr, refl, sym, ap, subst, ◌∙◌}
+use Rattle.std.proofs.Common.{◌≡◌, ℕ, suc, Bool, true, false, List, [], ◌∷◌, ◌++◌, Option, Some, None, inl, inr, refl, sym, ap, subst, ◌∙◌}
 use Rattle.std.specs.Prelude.{◌||◌, ◌&&◌, not, nat_lt}
 use Rattle.std.specs.List.{list_all}
 use Rattle.std.proofs.lemmas.Bool.{false≢true}
 use Rattle.span_text.specs.Names.{begins_name, is_name}
-use Rattle.text_grammar.specs.Grammar.{Leaf, step, rule, seq, choose, star, pass, fail}
+use Rattle.text_grammar.specs.Grammar.{Leaf, step, rule, choose, pass}
 use Rattle.text_grammar.specs.Values.{leaf_kids}
 use Rattle.sh_grammar.specs.Shape as shape
 use Rattle.sh_grammar.specs.Shape.{no_word, word, no_branch, branch, no_item, item, parameters, listed}
-use Rattle.sh_grammar.specs.Bytes.{Text, in_word, gap, starts, name_run, unit_starts}
+use Rattle.sh_grammar.specs.Bytes.{Text, in_word, gap, unit_starts}
 use Rattle.sh_grammar.specs.Tokens as tokens
 use Rattle.sh_grammar.specs.Tokens.{name_at}
 use Rattle.sh_grammar.specs.Expansions.{◌>>=◌}
@@ -17,13 +17,13 @@ use Rattle.sh_grammar.specs.Steps.{Known, limit, run_step, holds}
 use Rattle.sh_grammar.specs.Table.{Rule, body}
 use Rattle.sh_grammar.specs.Table as table
 use Rattle.sh_grammar.specs.Acts.{act}
-use Rattle.sh_grammar.proofs.Tools.{If, then, chosen_by}
+use Rattle.sh_grammar.proofs.Tools.{If, chosen_by}
 use Rattle.sh_printing.specs.Printable.{has_part, has_redirect, has_chain, has_branch, is_compound, word_fits, words_fit, patterns_fit, redirects_fit, kind_fits, command_fits, branches_fit, otherwise_fits, for_words_fit, items_fit, list_fits}
 use Rattle.sh_printing.specs.Printing.{has_word}
 use Rattle.sh_printing.proofs.BackBytes.{both}
 use Rattle.sh_printing.proofs.ExactParams.{NameIn, name_of}
 use Rattle.sh_printing.proofs.ExactParts.{by_step}
-use Rattle.sh_printing.proofs.ExactRules.{Stepped, Both, Turns, Ruled, Sat}
+use Rattle.sh_printing.proofs.ExactRules.{Stepped, Ruled, Sat}
 use Rattle.sh_printing.proofs.ExactStates.{Fine}
 use Rattle.sh_printing.proofs.ExactSteps.{nothing_said, skip, stop, enters}
 use Rattle.sh_printing.proofs.ExactNodes.{each_of, is_branch, is_listed, is_item, is_word, is_pattern, is_redirect, items_of, words_of, redirects_of}

@@ -1,38 +1,30 @@
 -- The last part of a body that was read ends it: bytes that stand for themselves, of which the last is a newline.
-use Rattle.std.proofs.Common.{◌≡◌, ℕ, zero, suc, Bool, true, false, cond, List, [], ◌∷◌, ◌++◌, Option, Some, None, ◌⊎◌, inl, inr, refl, sym, ap, subst, ◌∙◌, eqb-true}
-use Rattle.std.specs.Prelude.{◌||◌, ◌&&◌, not, ◌==◌, nat_lt}
+use Rattle.std.proofs.Common.{◌≡◌, ℕ, Bool, true, false, List, [], ◌∷◌, Option, Some, None, refl, sym, subst, ◌∙◌}
+use Rattle.std.specs.Prelude.{◌||◌, not, ◌==◌, nat_lt}
 use Rattle.std.proofs.lemmas.Bool.{false≢true, true≢false}
 use Rattle.span_text.specs.Names.{begins_name, continues_name, is_digit}
 use Rattle.span_text.proofs.Bytes.{apart, first_is_name}
 use Rattle.text_grammar.specs.Grammar.{Leaf, rule}
-use Rattle.text_grammar.specs.Derivations.{Tree, At}
-use Rattle.text_grammar.specs.Values.{kids, leaf_kids}
-use Rattle.sh_grammar.specs.Shape as shape
-use Rattle.sh_grammar.specs.Shape.{Param, FillTest, count, plain, exact, no_part, part}
+use Rattle.sh_grammar.specs.Shape.{Param, FillTest, count}
 use Rattle.span_text.specs.declared.expr.Expr.{Expr}
-use Rattle.sh_grammar.specs.Bytes.{Text, Context, in_body, is_join, clear, gap, starts, with_byte, run_from, is_literal, literal_run, name_run, digit_run, is_escaped, unit_starts, is_plain, is_active}
-use Rattle.sh_grammar.specs.Tokens.{End, Close, token, is_token}
+use Rattle.sh_grammar.specs.Bytes.{Text, is_join, clear, with_byte, run_from, name_run}
+use Rattle.sh_grammar.specs.Tokens.{Close, token, is_token}
 use Rattle.sh_grammar.specs.Expansions.{◌>>=◌, Head, closed as closed_head, filling, trimming, special, param_at, long_param_at, fill_test, fills, trims, operator_at, is_close, tail, length_head, or_else, is_dash, hash_head, is_hash, head_at, behind as behind_byte, behind_two, dollar_param, dollar_head}
-use Rattle.sh_grammar.specs.State.{State, Node, part_node, word_node, expr_node, parts_in, word_in}
+use Rattle.sh_grammar.specs.State.{State, Node, expr_node}
 use Rattle.sh_grammar.specs.Sums.{innermost}
-use Rattle.sh_grammar.specs.Steps.{Known, limit, run_step, holds, behind, literal_read, escaped_read, quoted_run, closed_read, none_owed}
+use Rattle.sh_grammar.specs.Steps.{Known, limit, run_step, behind, closed_read}
 use Rattle.sh_grammar.specs.Table.{Test, Rule, unit_begins, body}
 use Rattle.sh_grammar.specs.Table as table
-use Rattle.sh_grammar.specs.Acts.{act}
-use Rattle.sh_grammar.specs.Spelling.{knowing}
 use Rattle.sh_grammar.proofs.Tools.{If, then, chosen, chosen_by}
-use Rattle.sh_printing.specs.Spellable.{ends_with, is_unjoined, keeps}
-use Rattle.sh_printing.specs.Printable.{ends_line}
-use Rattle.sh_printing.proofs.BackBytes.{both, isnt, joins, no_join, clear_is}
-use Rattle.sh_printing.proofs.ExactBytes.{clear_free, backslash_bare, bare_free}
+use Rattle.sh_printing.specs.Spellable.{is_unjoined}
+use Rattle.sh_printing.proofs.BackBytes.{both, isnt, no_join}
 use Rattle.sh_printing.proofs.ExactParts.{by_step, behind_is}
-use Rattle.sh_printing.proofs.ExactRules.{Claim, Stepped, Both, Turns, Ruled, Sat, All, Keeps, sat_at}
+use Rattle.sh_printing.proofs.ExactRules.{Stepped, All}
 use Rattle.sh_printing.proofs.ExactStates.{Forth, Unjoined, Clean, is_lines}
-use Rattle.sh_printing.proofs.ExactTails.{Tails, Rest, clear_ends, gap_ends, byte_ends, two_ends, long_ends, tail_ends, digit_ends}
+use Rattle.sh_printing.proofs.ExactTails.{Rest, clear_ends, gap_ends, byte_ends, two_ends, long_ends, tail_ends}
 use Rattle.sh_printing.proofs.ExactBodies.{unjoined_tails, unjoined_after, clean_tails}
-use Rattle.sh_printing.proofs.ExactInvariants.{deep, even, forth}
 use Rattle.sh_printing.proofs.ExactBack.{close_token}
-use Rattle.sh_printing.proofs.ExactLast.{no_last, literal_last, ClosedEnds, dollar_param_last, dollar_head_last}
+use Rattle.sh_printing.proofs.ExactLast.{ClosedEnds, dollar_param_last, dollar_head_last}
 
 -- ---- behind what ends no body
 

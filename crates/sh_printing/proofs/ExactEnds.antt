@@ -1,5 +1,5 @@
 -- A body that was read ends with bytes that stand for themselves, and a newline.
-use Rattle.std.proofs.Common.{◌≡◌, ℕ, zero, suc, Bool, true, false, cond, List, [], ◌∷◌, ◌++◌, length, Option, Some, None, ◌⊎◌, inl, inr, refl, sym, ap, subst, ◌∙◌, eqb-true}
+use Rattle.std.proofs.Common.{◌≡◌, ℕ, zero, suc, Bool, true, false, cond, List, [], ◌∷◌, ◌++◌, length, Option, Some, None, inl, inr, refl, sym, ap, subst, ◌∙◌, eqb-true}
 use Rattle.std.specs.Prelude.{◌||◌, ◌&&◌, not, ◌==◌}
 use Rattle.std.proofs.lemmas.Bool.{false≢true, true≢false}
 use Rattle.span_text.specs.Names.{is_digit}
@@ -10,10 +10,10 @@ use Rattle.text_grammar.specs.Values.{kids, leaf_kids}
 use Rattle.sh_grammar.specs.Shape as shape
 use Rattle.sh_grammar.specs.Shape.{plain, exact, double, tilde, param, as_is, subst as listing, arith, no_part, part}
 use Rattle.sh_grammar.specs.Bytes.{Text, Context, in_body, is_join, clear, comment_end, is_blank, gap_from, gap, starts, with_byte, run_from, is_literal, literal_run, digit_run, is_escaped, is_bare_backslash}
-use Rattle.sh_grammar.specs.Tokens.{Op, End, Newline, Close, code, front, token, is_token, semi_at, and_at, pipe_at, here_at, less_at, great_at, is_angle, word_at}
-use Rattle.sh_grammar.specs.Expansions.{◌>>=◌, Head, closed as closed_head, filling, trimming, dollar_param, dollar_head}
-use Rattle.sh_grammar.specs.State.{State, start_at, Node, part_node, word_node, parts_in, word_in, filled_in, script_in, sum_in, operands_in}
-use Rattle.sh_grammar.specs.Steps.{Known, limit, run_step, holds, behind, literal_read, escaped_read, quoted_run, closed_read, none_owed}
+use Rattle.sh_grammar.specs.Tokens.{End, Newline, Close, code, front, token, is_token, semi_at, and_at, pipe_at, here_at, less_at, great_at, is_angle, word_at}
+use Rattle.sh_grammar.specs.Expansions.{Head, closed as closed_head, filling, trimming, dollar_param, dollar_head}
+use Rattle.sh_grammar.specs.State.{State, start_at, Node, part_node, parts_in, word_in, filled_in, script_in, sum_in, operands_in}
+use Rattle.sh_grammar.specs.Steps.{Known, limit, run_step, behind, literal_read, escaped_read, quoted_run, closed_read, none_owed}
 use Rattle.sh_grammar.specs.Table.{Test, Rule, unit_begins, body, part as a_part, double_quotes, expansion, braces, fill, trim, subst as substitution, sum, body_parts, piece, line_piece, complete, complete_more, list, maybe_list, list_more, lines, chain, link, and_link, or_link, pipeline, bang, stage, command, compound_command, compound, other_compound, group, subshell, if_command, if_branch, elif_branch, else_part, while_loop, until_loop, do_body, for_loop, for_words, for_in, case_command, case_in, case_item, pattern_more, item_end, function_command, simple_command, prefixed, called, suffix, prefix_item, suffix_item, assign, redirect, target, file, word, value, word_parts, more_parts, pattern, sum_part, sum_group}
 use Rattle.sh_grammar.specs.Table as table
 use Rattle.sh_grammar.specs.Acts.{act}
@@ -22,18 +22,18 @@ use Rattle.sh_grammar.proofs.Tools.{If, then, chosen, chosen_by}
 use Rattle.sh_printing.specs.Spellable.{ends_with, is_unjoined, keeps}
 use Rattle.sh_printing.specs.Printable.{ends_line}
 use Rattle.sh_printing.proofs.BackBytes.{both, isnt, neither, joins, no_join, clear_is}
-use Rattle.sh_printing.proofs.ExactBytes.{clear_free, escapes_backslash, backslash_bare, bare_free}
+use Rattle.sh_printing.proofs.ExactBytes.{clear_free, escapes_backslash, backslash_bare}
 use Rattle.sh_printing.proofs.ExactParts.{by_step, behind_is}
-use Rattle.sh_printing.proofs.ExactRules.{Claim, Stepped, Both, Turns, Ruled, Sat, All, Keeps, sat_at}
+use Rattle.sh_printing.proofs.ExactRules.{Claim, Stepped, Turns, Ruled, Sat, sat_at}
 use Rattle.sh_printing.proofs.ExactStates.{Forth, Unjoined, Clean, is_lines}
-use Rattle.sh_printing.proofs.ExactTails.{Tails, Rest, clear_ends, gap_ends}
-use Rattle.sh_printing.proofs.ExactBodies.{unjoined_tails, unjoined_after, clean_tails}
+use Rattle.sh_printing.proofs.ExactTails.{Tails, clear_ends}
+use Rattle.sh_printing.proofs.ExactBodies.{unjoined_tails, unjoined_after}
 use Rattle.sh_printing.proofs.ExactInvariants.{deep, even, forth}
 use Rattle.sh_printing.proofs.ExactBack.{Isnt, Others, not_on, front_other}
 use Rattle.sh_printing.proofs.ExactLast.{no_last, literal_last}
-use Rattle.sh_printing.proofs.ExactSteps.{nothing_said, skip, stop}
+use Rattle.sh_printing.proofs.ExactSteps.{nothing_said, stop}
 use Rattle.sh_printing.proofs.ExactClaims.{One}
-use Rattle.sh_printing.proofs.ExactEnding.{Solid, Ends, solid_behind, solid_dollar, solid_closed, solid_quote, solid_brace, solid_close, solid_sum, leaves_bytes}
+use Rattle.sh_printing.proofs.ExactEnding.{Solid, Ends, solid_dollar, solid_closed, solid_quote, solid_brace, solid_close, solid_sum, leaves_bytes}
 
 -- ---- claims
 

@@ -1,30 +1,30 @@
 -- Parts one behind the other, and expansions, when they were read.
-use Rattle.std.proofs.Common.{◌≡◌, ℕ, zero, suc, Bool, true, false, cond, List, [], ◌∷◌, ◌++◌, Option, Some, None, ◌⊎◌, inl, inr, refl, sym, ap, subst, ◌∙◌}
-use Rattle.std.specs.Prelude.{◌||◌, ◌&&◌, not, ◌==◌, nat_lt}
+use Rattle.std.proofs.Common.{◌≡◌, ℕ, zero, suc, Bool, true, false, List, [], ◌∷◌, ◌++◌, Option, Some, None, inl, inr, refl, sym, ap, subst, ◌∙◌}
+use Rattle.std.specs.Prelude.{◌&&◌, not, ◌==◌, nat_lt}
 use Rattle.std.proofs.lemmas.Bool.{false≢true}
-use Rattle.text_grammar.specs.Grammar.{Leaf, quiet, said, rule}
+use Rattle.text_grammar.specs.Grammar.{Leaf}
 use Rattle.text_grammar.specs.Values.{leaf_kids}
 use Rattle.sh_grammar.specs.Shape as shape
 use Rattle.sh_grammar.specs.Shape.{plain, exact, double, tilde, param, as_is, length_of, subst as listing, arith, no_part, part}
 use Rattle.sh_grammar.specs.Bytes.{Text, Context, in_word, in_double, in_body, in_brace, in_quoted_brace, in_body_brace, in_body_pattern, clear, starts, is_escaped, has_single, has_double, fill_context, trim_context, unit_starts}
 use Rattle.sh_grammar.specs.Expansions.{◌>>=◌, Head, closed as closed_head, filling, trimming, dollar_head, dollar_param, is_close, is_filling, filling_next}
-use Rattle.sh_grammar.specs.State.{State, Node, part_node, head_node, word_node, script_node, parts_in, filled, filled_in, script_in}
-use Rattle.sh_grammar.specs.Steps.{Known, limit, run_step, holds, behind, head_read, closed_read, byte_next, dollar_behind, escaped_behind}
+use Rattle.sh_grammar.specs.State.{State, Node, part_node, head_node, script_node, parts_in, filled, filled_in, script_in}
+use Rattle.sh_grammar.specs.Steps.{Known, limit, run_step, holds, behind, head_read, closed_read, byte_next, dollar_behind}
 use Rattle.sh_grammar.specs.Table.{Rule, unit_begins, body}
 use Rattle.sh_grammar.specs.Table as table
 use Rattle.sh_grammar.specs.Acts.{act}
 use Rattle.sh_grammar.proofs.Tools.{If, then, chosen_by}
-use Rattle.sh_printing.specs.Spellable.{param_fits, is_count}
+use Rattle.sh_printing.specs.Spellable.{is_count}
 use Rattle.sh_printing.specs.Printing.{continued}
-use Rattle.sh_printing.specs.Printable.{has_part, is_expansion, is_length, changes_mark, plain_begins, part_fits, parts_fit, list_fits}
+use Rattle.sh_printing.specs.Printable.{has_part, is_expansion, plain_begins, part_fits, parts_fit}
 use Rattle.sh_printing.proofs.BackBytes.{both}
 use Rattle.sh_printing.proofs.ExactBytes.{is_stuck}
 use Rattle.sh_printing.proofs.ExactParams.{HeadFits, HeadIn, closed_bare, dollar_head_fits, dollar_param_bare}
-use Rattle.sh_printing.proofs.ExactParts.{Begins, Fronts, NotOn, fronts_on, same_byte, PlainRun, PartOk, OnePart, OneExpansion, by_step, behind_is, literal_part, exact_part, escaped_part}
-use Rattle.sh_printing.proofs.ExactRules.{Stepped, Both, Turns, Ruled, Sat}
+use Rattle.sh_printing.proofs.ExactParts.{Begins, Fronts, fronts_on, same_byte, PlainRun, OnePart, OneExpansion, by_step, behind_is, literal_part, exact_part, escaped_part}
+use Rattle.sh_printing.proofs.ExactRules.{Stepped, Turns, Ruled, Sat}
 use Rattle.sh_printing.proofs.ExactStates.{Fine}
 use Rattle.sh_printing.proofs.ExactSteps.{nothing_said, skip, stop, enters, enter_bytes}
-use Rattle.sh_printing.proofs.ExactClaims.{One, PartsOk, Anywhere, Says}
+use Rattle.sh_printing.proofs.ExactClaims.{PartsOk, Anywhere, Says}
 
 -- ---- parts
 

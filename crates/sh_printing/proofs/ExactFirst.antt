@@ -1,36 +1,32 @@
 -- Words of a command that were read: no comment, and the first one no assignment and no reserved word.
-use Rattle.std.proofs.Common.{◌≡◌, ℕ, Bool, true, false, cond, List, [], ◌∷◌, ◌++◌, Option, Some, None, ◌⊎◌, inl, inr, refl, sym, ap, subst, ◌∙◌, eqb-true}
-use Rattle.std.specs.Prelude.{◌||◌, ◌&&◌, not, ◌==◌}
-use Rattle.std.specs.List.{list_all}
-use Rattle.std.proofs.lemmas.Bool.{false≢true, true≢false}
-use Rattle.span_text.specs.Names.{begins_name, continues_name, is_name}
+use Rattle.std.proofs.Common.{◌≡◌, ℕ, Bool, true, false, cond, List, [], ◌∷◌, Some, refl, sym, ap, subst, ◌∙◌}
+use Rattle.std.specs.Prelude.{◌||◌, not, ◌==◌}
+use Rattle.std.proofs.lemmas.Bool.{false≢true}
+use Rattle.span_text.specs.Names.{begins_name, continues_name}
 use Rattle.span_text.specs.KnownNames.{same_text}
 use Rattle.span_text.proofs.Bytes.{apart, first_is_name}
 use Rattle.text_grammar.specs.Grammar.{Leaf}
-use Rattle.text_grammar.specs.Values.{leaf_kids}
 use Rattle.sh_grammar.specs.Shape as shape
 use Rattle.sh_grammar.specs.Shape.{plain, exact, double, tilde, param, subst as listing, arith, no_part, part, no_word, word, no_assign, assign}
 use Rattle.sh_grammar.specs.Bytes.{Text, in_word, is_join, clear, comment_end, is_blank, gap_from, gap, starts, with_byte, run_from, is_literal, literal_run, unit_starts, name_run}
 use Rattle.sh_grammar.specs.Tokens.{Key, Then, Elif, Else, Fi, For, In, Until, While, Do, Done, Case, Esac, OpenBrace, CloseBrace, Bang, key_text, Word, is_token, bare, is_whole, is_key, opens_compound, is_other_key, name_next, name_at, assign_at, assign_next, behind, is_something, ◌>>=◌}
 use Rattle.sh_grammar.specs.Tokens as tokens
-use Rattle.sh_grammar.specs.State.{State, Node, text_node, word_node, assign_node, parts_in, text_in, value_in}
-use Rattle.sh_grammar.specs.Steps.{Known, run_step, holds, word_place}
+use Rattle.sh_grammar.specs.State.{State, Node, word_node, parts_in}
+use Rattle.sh_grammar.specs.Steps.{Known, run_step, word_place}
 use Rattle.sh_grammar.specs.Table.{Rule, body}
 use Rattle.sh_grammar.specs.Table as table
 use Rattle.sh_grammar.specs.Acts.{act}
 use Rattle.sh_grammar.proofs.Tools.{If, then, chosen_by}
 use Rattle.sh_printing.specs.Spellable.{is_text, is_reserved_text, begins_with, begins_assign, equals_behind}
-use Rattle.sh_printing.specs.Printable.{has_part, plain_begins, is_assignment, is_reserved_word, part_fits, parts_fit, word_fits, patterns_fit, value_fits, assigns_fit}
-use Rattle.sh_printing.proofs.BackBytes.{both, isnt, neither, joins, no_join, clear_is, goes_at}
-use Rattle.sh_printing.proofs.ExactBytes.{clear_free, Ran, literal_ran}
-use Rattle.sh_printing.proofs.ExactParams.{NameIn, name_of}
+use Rattle.sh_printing.specs.Printable.{plain_begins, is_assignment, is_reserved_word, word_fits, patterns_fit}
+use Rattle.sh_printing.proofs.BackBytes.{both, isnt, joins, no_join, clear_is}
+use Rattle.sh_printing.proofs.ExactBytes.{Ran, literal_ran}
 use Rattle.sh_printing.proofs.ExactParts.{Fronts, OnePart, same_byte, by_step}
-use Rattle.sh_printing.proofs.ExactRules.{Stepped, Both, Ruled, Sat}
+use Rattle.sh_printing.proofs.ExactRules.{Stepped, Sat}
 use Rattle.sh_printing.proofs.ExactStates.{Fine}
-use Rattle.sh_printing.proofs.ExactSteps.{nothing_said, skip, stop}
-use Rattle.sh_printing.proofs.ExactClaims.{One, OneNode, PartsOk, PartsOfWord, WordFront, WordOk, Says}
-use Rattle.sh_printing.proofs.ExactNodes.{is_pattern, is_prefix}
-use Rattle.sh_printing.proofs.ExactExpansions.{parts_behind, plain_front}
+use Rattle.sh_printing.proofs.ExactSteps.{nothing_said, skip}
+use Rattle.sh_printing.proofs.ExactClaims.{WordFront, Says}
+use Rattle.sh_printing.proofs.ExactExpansions.{parts_behind}
 
 -- ---- behind a gap
 

@@ -1,11 +1,11 @@
 -- Functions that were read fit: their names are no reserved words.
 use Rattle.std.proofs.Common.{◌≡◌, ℕ, Bool, true, false, cond, List, [], ◌∷◌, ◌++◌, Option, Some, None, refl, sym, ap, subst, ◌∙◌}
 use Rattle.std.specs.Prelude.{◌||◌, ◌&&◌, not, ◌==◌}
-use Rattle.std.proofs.lemmas.Bool.{false≢true, true≢false}
-use Rattle.span_text.specs.Names.{begins_name, continues_name, is_digit, is_name}
+use Rattle.std.proofs.lemmas.Bool.{false≢true}
+use Rattle.span_text.specs.Names.{begins_name, continues_name, is_digit}
 use Rattle.sh_grammar.specs.Shape as shape
 use Rattle.sh_grammar.specs.Shape.{no_redirect}
-use Rattle.sh_grammar.specs.Bytes.{Text, in_word, is_join, comment_end, gap, starts, with_byte, run_from, is_plain, is_bare_dollar, is_bare_backslash, is_literal, literal_run, begins_unit, has_single, has_double, unit_starts, name_run, digit_run}
+use Rattle.sh_grammar.specs.Bytes.{Text, in_word, is_join, comment_end, gap, starts, with_byte, run_from, is_plain, is_literal, literal_run, begins_unit, has_single, has_double, unit_starts, name_run, digit_run}
 use Rattle.sh_grammar.specs.Tokens.{Op, Open, Word, Io, Other, code, front, token, is_token, bare, digits_word, word_at, is_angle, name_next, function_next, opens, name_at, opens_compound, is_other_key}
 use Rattle.sh_grammar.specs.State.{State, Node, text_node, command_node, text_in, command_in}
 use Rattle.sh_grammar.specs.Steps.{Known}
@@ -13,10 +13,8 @@ use Rattle.sh_grammar.specs.Table.{body}
 use Rattle.sh_grammar.specs.Table as table
 use Rattle.sh_grammar.specs.Acts.{act}
 use Rattle.sh_grammar.proofs.Tools.{chosen_by}
-use Rattle.sh_grammar.specs.Steps as steps
 use Rattle.sh_printing.specs.Spellable.{is_reserved_text}
-use Rattle.sh_printing.specs.Printable.{command_fits}
-use Rattle.sh_printing.proofs.BackBytes.{both, isnt, neither, joins, goes_at}
+use Rattle.sh_printing.proofs.BackBytes.{both, isnt, neither, joins}
 use Rattle.sh_printing.proofs.BackSimple.{name_byte}
 use Rattle.sh_printing.proofs.BackTokens.{front_word}
 use Rattle.sh_printing.proofs.BackWordFronts.{solid_front}
@@ -24,9 +22,9 @@ use Rattle.sh_printing.proofs.ExactParams.{run_each}
 use Rattle.sh_printing.proofs.ExactRules.{Sat}
 use Rattle.sh_printing.proofs.ExactStates.{Fine}
 use Rattle.sh_printing.proofs.ExactSteps.{nothing_said, skip}
-use Rattle.sh_printing.proofs.ExactClaims.{One, Says}
+use Rattle.sh_printing.proofs.ExactClaims.{Says}
 use Rattle.sh_printing.proofs.ExactFirst.{reserved_is}
-use Rattle.sh_printing.proofs.ExactCompound.{Named, named}
+use Rattle.sh_printing.proofs.ExactCompound.{named}
 use Rattle.sh_grammar.specs.Tokens as tokens
 
 -- ---- what stands before a parenthesis

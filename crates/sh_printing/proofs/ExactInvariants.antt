@@ -1,25 +1,21 @@
 -- What holds of states holds from step to step.
-use Rattle.std.proofs.Common.{◌≡◌, ℕ, zero, suc, ◌+◌, ◌-◌, Bool, true, false, cond, List, [], ◌∷◌, ◌++◌, length, Option, Some, None, refl, sym, ap, subst, ◌∙◌, arith, append_assoc, eqb-true}
-use Rattle.std.specs.Prelude.{◌||◌, ◌&&◌, not, ◌==◌, nat_lt}
-use Rattle.std.proofs.lemmas.Bool.{false≢true, true≢false}
-use Rattle.text_grammar.specs.Grammar.{Leaf, quiet, said}
+use Rattle.std.proofs.Common.{◌≡◌, ℕ, zero, suc, ◌+◌, ◌-◌, Bool, true, false, cond, List, [], ◌∷◌, ◌++◌, length, Option, Some, None, refl, sym, ap, ◌∙◌, arith}
+use Rattle.std.specs.Prelude.{◌&&◌, not, nat_lt}
+use Rattle.std.proofs.lemmas.Bool.{false≢true}
+use Rattle.text_grammar.specs.Grammar.{Leaf, said}
 use Rattle.sh_grammar.specs.Shape.{RedirectOp, copy_in, copy_out}
-use Rattle.sh_grammar.specs.Bytes.{Text, Context, clear, gap, in_word, literal_run, digit_run, starts, unit_starts, is_escaped}
-use Rattle.span_text.specs.Names.{is_digit}
-use Rattle.sh_grammar.specs.Tokens.{Op, End, Newline, Word, Io, Other, Less, Great, DGreat, DLess, DLessDash, LessAnd, GreatAnd, code, after_byte, goes_on_with, semi_at, and_at, pipe_at, here_at, less_at, great_at, is_angle, digits_word, word_at, front, token, is_token, is_key, bare, name_at, assign_at, tilde_at}
+use Rattle.sh_grammar.specs.Bytes.{Text, Context, clear, gap, in_word, literal_run, unit_starts, is_escaped}
+use Rattle.sh_grammar.specs.Tokens.{Op, End, Newline, Less, Great, DGreat, DLess, DLessDash, LessAnd, GreatAnd, token, is_token, is_key, name_at, assign_at, tilde_at}
 use Rattle.sh_grammar.specs.Expansions.{◌>>=◌, Head, closed as closed_head, filling, trimming, dollar_param, dollar_head, dollar_sum, behind_two}
 use Rattle.sh_grammar.specs.Bodies.{Owed, delimiter_for, bodies_at}
-use Rattle.sh_grammar.specs.State.{State, Node, Sum, expr_node}
-use Rattle.span_text.specs.declared.expr.Expr.{Expr}
-use Rattle.sh_grammar.specs.Sums.{sum_run, innermost, without_innermost}
+use Rattle.sh_grammar.specs.State.{State, Node}
+use Rattle.sh_grammar.specs.Sums.{sum_run, innermost}
 use Rattle.sh_grammar.specs.Table.{Step, op, key, line, ends, name, assign_name, descriptor, file_op, here, copy, to_word, tilde, literal, escaped, exact, quote, dollar, closed, open_head, open_subst, close_brace, open_sum, sum_bytes, operand, sum_open, sum_close, close_sum, enter, leave, Rule, piece, line_piece, complete, complete_more, list, maybe_list, list_more, lines, chain, link, and_link, or_link, pipeline, bang, stage, command, compound_command, compound, other_compound, group, subshell, if_command, if_branch, elif_branch, else_part, while_loop, until_loop, do_body, for_loop, for_words, for_in, case_command, case_in, case_item, pattern_more, item_end, function_command, simple_command, prefixed, called, suffix, prefix_item, suffix_item, assign, redirect, target, file, word, value, word_parts, more_parts, pattern, part, double_quotes, expansion, braces, fill, trim, subst as substitution, sum, sum_part, sum_group, body_parts, body}
-use Rattle.sh_grammar.specs.Steps.{Known, limit, Read, behind, word_place, here_node, here_after, here_read, op_read, is_copied, copied_read, copy_read, digit_read, literal_read, escaped_read, quoted_run, closed_read, head_read, bytes_read, line_read, none_owed, run_step}
-use Rattle.sh_grammar.proofs.Tools.{If, then, chosen, chosen_by, if_some}
-use Rattle.sh_printing.specs.Spellable.{is_unjoined}
-use Rattle.sh_printing.proofs.ExactRules.{Keeps, step_depth, above, after, is_even}
-use Rattle.sh_printing.proofs.ExactStates.{Forth, Back, Owes, Unjoined, Clean}
-use Rattle.sh_printing.proofs.ExactTails.{gap_ends}
-use Rattle.sh_printing.proofs.ExactBodies.{unjoined_tails, unjoined_after, clean_tails}
+use Rattle.sh_grammar.specs.Steps.{Known, limit, Read, behind, word_place, here_node, here_after, here_read, op_read, is_copied, copied_read, copy_read, digit_read, literal_read, escaped_read, quoted_run, closed_read, head_read, bytes_read, none_owed, run_step}
+use Rattle.sh_grammar.proofs.Tools.{If, then, chosen, if_some}
+use Rattle.sh_printing.proofs.ExactRules.{step_depth, above, after, is_even}
+use Rattle.sh_printing.proofs.ExactStates.{Forth, Clean}
+use Rattle.sh_printing.proofs.ExactBodies.{clean_tails}
 use Rattle.sh_printing.proofs.ExactLines.{Bodies, bodies_fit}
 use Rattle.sh_printing.proofs.ExactKeeps.{step_leaves}
 

@@ -1,26 +1,21 @@
 -- What steps keep: depth, the ends of texts, and the here-documents that are owed and found.
-use Rattle.std.proofs.Common.{◌≡◌, ℕ, zero, suc, ◌+◌, ◌-◌, Bool, true, false, cond, List, [], ◌∷◌, ◌++◌, length, Option, Some, None, refl, sym, ap, subst, ◌∙◌, arith, append_assoc, eqb-true}
-use Rattle.std.specs.Prelude.{◌||◌, ◌&&◌, not, ◌==◌, nat_lt}
-use Rattle.std.proofs.lemmas.Bool.{false≢true, true≢false}
-use Rattle.text_grammar.specs.Grammar.{Leaf, quiet, said}
-use Rattle.sh_grammar.specs.Shape.{Parts, Param, RedirectOp, copy_in, copy_out}
-use Rattle.sh_grammar.specs.Bytes.{Text, Context, clear, gap, in_word, literal_run, digit_run, starts, unit_starts, is_escaped}
-use Rattle.span_text.specs.Names.{is_digit}
-use Rattle.sh_grammar.specs.Tokens.{Op, End, Newline, Word, Io, Other, Less, Great, DGreat, DLess, DLessDash, LessAnd, GreatAnd, code, after_byte, goes_on_with, semi_at, and_at, pipe_at, here_at, less_at, great_at, is_angle, digits_word, word_at, front, token, is_token, is_key, bare, name_at, assign_at, tilde_at}
+use Rattle.std.proofs.Common.{ℕ, suc, Bool, true, false, List, [], ◌∷◌, ◌++◌, Option, Some, None}
+use Rattle.std.specs.Prelude.{◌&&◌, not, ◌==◌, nat_lt}
+use Rattle.text_grammar.specs.Grammar.{Leaf, said}
+use Rattle.sh_grammar.specs.Shape.{Param, RedirectOp, copy_in, copy_out}
+use Rattle.sh_grammar.specs.Bytes.{Text, Context, clear, gap, in_word, literal_run, unit_starts, is_escaped}
+use Rattle.sh_grammar.specs.Tokens.{Op, End, Newline, Word, Less, Great, DGreat, DLess, DLessDash, LessAnd, GreatAnd, token, is_token, is_key, name_at, assign_at, tilde_at}
 use Rattle.sh_grammar.specs.Expansions.{◌>>=◌, Head, closed as closed_head, filling, trimming, dollar_param, dollar_head, dollar_sum, behind_two}
-use Rattle.sh_grammar.specs.Bodies.{Owed, delimiter_for, bodies_at}
-use Rattle.sh_grammar.specs.State.{State, Node, Sum, expr_node}
+use Rattle.sh_grammar.specs.Bodies.{delimiter_for, bodies_at}
+use Rattle.sh_grammar.specs.State.{State, Node, expr_node}
 use Rattle.span_text.specs.declared.expr.Expr.{Expr}
 use Rattle.sh_grammar.specs.Sums.{is_sum_byte, sum_run, innermost, without_innermost}
 use Rattle.sh_grammar.specs.Table.{Step, op, key, line, ends, name, assign_name, descriptor, file_op, here, copy, to_word, tilde, literal, escaped, exact, quote, dollar, closed, open_head, open_subst, close_brace, open_sum, sum_bytes, operand, sum_open, sum_close, close_sum, enter, leave}
-use Rattle.sh_grammar.specs.Steps.{Known, limit, Read, behind, word_place, here_node, here_after, here_read, op_read, is_copied, copied_read, copy_read, digit_read, literal_read, escaped_read, quoted_run, closed_read, head_read, bytes_read, line_read, none_owed, run_step}
-use Rattle.sh_grammar.proofs.Tools.{If, then, chosen, chosen_some, chosen_by, if_some}
-use Rattle.sh_printing.specs.Spellable.{is_unjoined}
-use Rattle.sh_printing.proofs.ExactRules.{Keeps, step_depth, above}
-use Rattle.sh_printing.proofs.ExactStates.{Forth, Back, Owes, Unjoined, Clean}
-use Rattle.sh_printing.proofs.ExactTails.{Tails, Rest, clear_ends, gap_ends, literal_ends, token_ends, name_at_ends, assign_ends, tilde_ends, byte_ends, two_ends, dollar_param_ends, dollar_head_ends, dollar_sum_ends}
-use Rattle.sh_printing.proofs.ExactBodies.{unjoined_tails, unjoined_after, clean_tails, delimiter_ends, nothing_of}
-use Rattle.sh_printing.proofs.ExactLines.{Bodies, bodies_fit, bodies_end}
+use Rattle.sh_grammar.specs.Steps.{Known, limit, Read, behind, word_place, here_node, here_after, here_read, op_read, is_copied, copied_read, copy_read, digit_read, literal_read, escaped_read, quoted_run, closed_read, head_read, bytes_read, none_owed, run_step}
+use Rattle.sh_grammar.proofs.Tools.{If, then, chosen, chosen_some}
+use Rattle.sh_printing.proofs.ExactTails.{Tails, Rest, clear_ends, gap_ends, literal_ends, token_ends, name_at_ends, assign_ends, tilde_ends, two_ends, dollar_param_ends, dollar_head_ends, dollar_sum_ends}
+use Rattle.sh_printing.proofs.ExactBodies.{delimiter_ends, nothing_of}
+use Rattle.sh_printing.proofs.ExactLines.{bodies_end}
 
 -- ---- ends of texts
 

@@ -1,18 +1,18 @@
 -- What ends where a body ends: only bytes that stand for themselves, since the last byte is a newline.
 use Rattle.std.proofs.Common.{◌≡◌, ℕ, Bool, true, false, cond, [], ◌∷◌, ◌++◌, Option, Some, None, refl, sym, ap, subst, ◌∙◌, eqb-true}
-use Rattle.std.specs.Prelude.{◌||◌, ◌&&◌, not, ◌==◌}
+use Rattle.std.specs.Prelude.{◌||◌, not, ◌==◌}
 use Rattle.std.proofs.lemmas.Bool.{false≢true, true≢false}
-use Rattle.span_text.specs.Names.{begins_name, continues_name, is_digit, is_letter}
+use Rattle.span_text.specs.Names.{begins_name, continues_name, is_digit}
 use Rattle.span_text.proofs.Bytes.{apart}
-use Rattle.sh_grammar.specs.Shape.{Param, ParamOp, FillTest, count}
-use Rattle.sh_grammar.specs.Bytes.{Text, Context, is_join, clear, starts, with_byte, run_from, is_literal, is_bare_backslash, literal_run, name_run}
-use Rattle.sh_grammar.specs.Expansions.{◌>>=◌, Head, closed, filling, trimming, named_as, special, param_at, long_param_at, fills, fill_test, trims, operator_at, is_close, tail, length_head, or_else, is_dash, hash_head, is_hash, head_at, behind, behind_two, dollar_param, dollar_head}
+use Rattle.sh_grammar.specs.Shape.{Param, FillTest, count}
+use Rattle.sh_grammar.specs.Bytes.{Text, Context, is_join, clear, with_byte, run_from, is_literal, literal_run, name_run}
+use Rattle.sh_grammar.specs.Expansions.{◌>>=◌, Head, closed, filling, trimming, special, param_at, long_param_at, fills, fill_test, trims, operator_at, is_close, tail, length_head, or_else, is_dash, hash_head, is_hash, head_at, behind, behind_two, dollar_param, dollar_head}
 use Rattle.sh_grammar.proofs.Tools.{If, then, chosen, chosen_by}
 use Rattle.sh_printing.specs.Spellable.{ends_with, is_unjoined}
 use Rattle.sh_printing.proofs.BackBytes.{both, isnt, joins, no_join}
 use Rattle.sh_printing.proofs.ExactBytes.{clear_free, backslash_bare, bare_free}
 use Rattle.sh_printing.proofs.ExactStates.{is_lines, Unjoined, Clean}
-use Rattle.sh_printing.proofs.ExactTails.{Tails, Rest, clear_ends, byte_ends, two_ends, long_ends, tail_ends}
+use Rattle.sh_printing.proofs.ExactTails.{Rest, clear_ends, byte_ends, two_ends, long_ends, tail_ends}
 use Rattle.sh_printing.proofs.ExactBodies.{unjoined_after, clean_tails}
 
 -- ---- the last byte

@@ -1,18 +1,16 @@
 -- Bodies of here-documents that were read are lines: literal ones without NUL, expanded ones without joins.
-use Rattle.std.proofs.Common.{◌≡◌, ℕ, zero, suc, ◌+◌, Bool, true, false, cond, List, [], ◌∷◌, ◌++◌, length, Option, Some, None, refl, sym, ap, subst, ◌∙◌, arith, eqb-true}
-use Rattle.std.specs.Prelude.{◌||◌, ◌&&◌, not, ◌==◌}
+use Rattle.std.proofs.Common.{◌≡◌, ℕ, suc, Bool, true, false, cond, List, [], ◌∷◌, ◌++◌, length, Option, Some, None, refl, sym, ap, subst, ◌∙◌}
+use Rattle.std.specs.Prelude.{◌&&◌, not, ◌==◌}
 use Rattle.std.specs.List.{list_all}
 use Rattle.std.proofs.lemmas.Bool.{false≢true, true≢false}
 use Rattle.span_text.proofs.Bytes.{apart}
 use Rattle.sh_grammar.specs.Bytes.{Text, is_join, starts}
-use Rattle.sh_grammar.specs.Expansions.{◌>>=◌}
-use Rattle.sh_grammar.specs.Bodies.{Owed, Place, line_start, within, join_at_start, join_within, kept_byte, last_line, or_further, with_byte, is_start, join_of, behind_byte, body_from, body_at, bodies_at}
-use Rattle.sh_grammar.proofs.Tools.{If, then, chosen, chosen_by}
-use Rattle.sh_grammar.specs.Steps.{literal_parts}
+use Rattle.sh_grammar.specs.Bodies.{Owed, Place, line_start, within, join_at_start, join_within, kept_byte, last_line, or_further, with_byte, behind_byte, body_from, body_at, bodies_at}
+use Rattle.sh_grammar.proofs.Tools.{If, then, chosen_by}
 use Rattle.sh_printing.specs.Spellable.{ends_with, is_unjoined, keeps}
-use Rattle.sh_printing.specs.Printable.{is_body_byte, literal_body}
+use Rattle.sh_printing.specs.Printable.{is_body_byte}
 use Rattle.sh_printing.proofs.BackBytes.{both, isnt, no_join}
-use Rattle.sh_printing.proofs.ExactStates.{is_lines, Unjoined, Clean, BodyFits, Owes}
+use Rattle.sh_printing.proofs.ExactStates.{is_lines, BodyFits, Owes}
 use Rattle.sh_printing.proofs.ExactTails.{Tails, Rest}
 use Rattle.sh_printing.proofs.ExactBodies.{body_ends, body_unjoined}
 

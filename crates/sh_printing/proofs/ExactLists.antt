@@ -1,24 +1,21 @@
 -- Lists, pipelines and compound commands that were read fit.
-use Rattle.std.proofs.Common.{◌≡◌, ℕ, zero, suc, Bool, true, false, List, [], ◌∷◌, ◌++◌, ◌⊎◌, inl, inr, refl, sym, ap, subst, ◌∙◌, append-nil}
-use Rattle.std.specs.Prelude.{◌||◌, ◌&&◌, not, nat_lt}
+use Rattle.std.proofs.Common.{◌≡◌, ℕ, zero, suc, Bool, true, List, [], ◌∷◌, ◌++◌, inl, inr, refl, sym, ap, subst, ◌∙◌}
+use Rattle.std.specs.Prelude.{◌&&◌}
 use Rattle.std.specs.List.{list_all}
-use Rattle.std.proofs.lemmas.Bool.{false≢true}
 use Rattle.sh_grammar.specs.Shape as shape
 use Rattle.sh_grammar.specs.Shape.{no_word, word, no_stage, stage, no_branch, branch, no_item, item, parameters}
 use Rattle.sh_grammar.specs.Tokens as tokens
-use Rattle.sh_grammar.specs.State.{State, Node, word_node, kind_node, command_node, bang_node, pipeline_node, and_node, or_node, chain_node, script_node, branch_node, else_node, listed_node, item_node, words_in, stages_in, links_in, chains_in, branches_in, items_in, word_in, script_in, second_script_in, has_bang, else_in, listed_in, kind_in, command_in, pipeline_in, redirects_in}
-use Rattle.sh_grammar.specs.Steps.{Known, limit, holds}
+use Rattle.sh_grammar.specs.State.{State, Node, pipeline_node, and_node, or_node, chain_node, stages_in, links_in, chains_in, has_bang, pipeline_in}
+use Rattle.sh_grammar.specs.Steps.{Known, holds}
 use Rattle.sh_grammar.specs.Table.{Test, Rule, body}
 use Rattle.sh_grammar.specs.Table as table
 use Rattle.sh_grammar.specs.Acts.{act}
-use Rattle.sh_printing.specs.Printable.{has_part, has_redirect, has_chain, has_stage, has_branch, has_compound, is_compound, word_fits, words_fit, patterns_fit, redirects_fit, kind_fits, command_fits, branches_fit, otherwise_fits, for_words_fit, items_fit, stages_fit, pipeline_fits, links_fit, chain_fits, list_fits}
-use Rattle.sh_printing.specs.Printing.{has_word}
-use Rattle.sh_printing.proofs.BackBytes.{both, three}
-use Rattle.sh_printing.proofs.ExactRules.{Stepped, Both, Turns, Ruled, Sat}
+use Rattle.sh_printing.specs.Printable.{has_chain, has_stage, stages_fit, chain_fits}
+use Rattle.sh_printing.proofs.ExactRules.{Stepped, Turns, Ruled, Sat}
 use Rattle.sh_printing.proofs.ExactStates.{Fine}
-use Rattle.sh_printing.proofs.ExactSteps.{nothing_said, skip, stop, enters, is_quiet}
-use Rattle.sh_printing.proofs.ExactNodes.{each_of, is_chain, is_link, is_stage, is_branch, is_listed, is_item, is_word, is_pattern, is_redirect, chains_fit, links_of, stages_of, items_of, branches_of, listed_of, words_of, patterns_of, redirects_of}
-use Rattle.sh_printing.proofs.ExactClaims.{One, OneNode, WordOk, Says}
+use Rattle.sh_printing.proofs.ExactSteps.{nothing_said, skip, stop}
+use Rattle.sh_printing.proofs.ExactNodes.{each_of, is_chain, is_link, is_stage, chains_fit, links_of, stages_of}
+use Rattle.sh_printing.proofs.ExactClaims.{One, OneNode, Says}
 
 -- ---- turns
 

@@ -1,12 +1,12 @@
 -- Values of one kind, and what a rule takes of them.
-use Rattle.std.proofs.Common.{◌≡◌, ℕ, Bool, true, false, List, [], ◌∷◌, ◌++◌, refl, ap}
+use Rattle.std.proofs.Common.{◌≡◌, ℕ, Bool, true, false, List, [], ◌∷◌, ◌++◌, refl}
 use Rattle.std.specs.Prelude.{◌||◌, ◌&&◌}
 use Rattle.std.specs.List.{list_all}
 use Rattle.std.proofs.lemmas.Bool.{false≢true}
 use Rattle.sh_grammar.specs.Shape as shape
 use Rattle.sh_grammar.specs.Shape.{no_word, word, no_assign, assign, no_redirect, redirect, no_stage, stage, no_link, and_link, or_link, no_chain, next_chain, no_branch, branch, no_item, item, parameters, no_part}
-use Rattle.sh_grammar.specs.State.{Node, text_node, digit_node, part_node, head_node, expr_node, word_node, op_node, aimed_node, redirect_node, assign_node, kind_node, command_node, bang_node, pipeline_node, and_node, or_node, chain_node, script_node, branch_node, else_node, listed_node, item_node, words_in, assigns_in, redirects_in, stages_in, links_in, chains_in, branches_in, items_in, listed_in}
-use Rattle.sh_printing.specs.Printing.{has_assign, has_word}
+use Rattle.sh_grammar.specs.State.{Node, word_node, aimed_node, redirect_node, assign_node, command_node, and_node, or_node, chain_node, branch_node, listed_node, item_node, words_in, redirects_in, stages_in, links_in, chains_in, branches_in, items_in, listed_in}
+use Rattle.sh_printing.specs.Printing.{has_word}
 use Rattle.sh_printing.specs.Printable.{has_part, has_redirect, has_chain, has_stage, has_branch, word_fits, words_fit, patterns_fit, assigns_fit, redirects_fit, command_fits, branches_fit, for_words_fit, items_fit, stages_fit, pipeline_fits, links_fit, chain_fits, list_fits}
 use Rattle.sh_printing.proofs.BackBytes.{both}
 

@@ -1,19 +1,18 @@
 -- What names, digits, parameters and their operators are, when they were read.
-use Rattle.std.proofs.Common.{◌≡◌, ℕ, Bool, true, false, cond, [], ◌∷◌, Option, Some, None, refl, sym, ap, subst, ◌∙◌, eqb-true}
+use Rattle.std.proofs.Common.{◌≡◌, ℕ, Bool, true, false, cond, [], ◌∷◌, Option, Some, None, refl, sym, subst, ◌∙◌, eqb-true}
 use Rattle.std.specs.Prelude.{◌||◌, ◌&&◌, not, ◌==◌, nat_lt}
 use Rattle.std.specs.List.{list_all}
 use Rattle.std.proofs.lemmas.Bool.{false≢true}
 use Rattle.span_text.specs.Names.{begins_name, continues_name, is_digit, is_name}
 use Rattle.span_text.proofs.Bytes.{apart, first_is_name}
 use Rattle.sh_grammar.specs.Shape.{Param, named, digits, count, status, at, star, as_is, length_of, fill, trim, FillTest, default, assigning, alternate}
-use Rattle.sh_grammar.specs.Bytes.{Text, is_join, clear_from, clear, starts, with_byte, run_from, name_run, digit_run}
-use Rattle.sh_grammar.specs.Expansions.{◌>>=◌, Head, closed, filling, trimming, named_as, special, one_digit, param_at, long_param_at, fill_test, fills, trims, operator_at, is_close, tail, length_head, or_else, is_dash, hash_head, is_hash, head_at, behind, behind_two, dollar_param, dollar_head}
+use Rattle.sh_grammar.specs.Bytes.{Text, is_join, clear, starts, with_byte, run_from, name_run, digit_run}
+use Rattle.sh_grammar.specs.Expansions.{◌>>=◌, Head, closed, filling, trimming, special, param_at, long_param_at, fill_test, fills, trims, operator_at, is_close, tail, length_head, or_else, is_dash, hash_head, is_hash, head_at, behind, behind_two, dollar_param, dollar_head}
 use Rattle.sh_grammar.proofs.Tools.{If, then, chosen_by}
 use Rattle.sh_grammar.specs.Steps.{limit}
 use Rattle.sh_printing.specs.Spellable.{is_digits, param_fits, is_long, bare_fits, is_count}
-use Rattle.sh_printing.specs.Printable.{trim_byte}
-use Rattle.sh_printing.proofs.BackBytes.{both, isnt, neither, joins, no_join, clear_is}
-use Rattle.sh_printing.proofs.ExactBytes.{clear_from_free, clear_free, clear_twice}
+use Rattle.sh_printing.proofs.BackBytes.{neither, joins, no_join, clear_is}
+use Rattle.sh_printing.proofs.ExactBytes.{clear_free}
 
 -- ---- runs of bytes by what each is
 

@@ -1,26 +1,24 @@
 -- Parts of words that were read fit where they stand: bytes that stand for themselves, quotes.
-use Rattle.std.proofs.Common.{◌≡◌, ℕ, zero, suc, Bool, true, false, cond, List, [], ◌∷◌, ◌++◌, Option, Some, None, inl, inr, refl, sym, ap, subst, ◌∙◌, eqb-true}
+use Rattle.std.proofs.Common.{◌≡◌, ℕ, Bool, true, false, List, [], ◌∷◌, ◌++◌, refl, sym, ap, subst, ◌∙◌, eqb-true}
 use Rattle.std.specs.Prelude.{◌||◌, ◌&&◌, not, ◌==◌}
 use Rattle.std.specs.List.{list_all}
 use Rattle.std.proofs.lemmas.Bool.{false≢true}
 use Rattle.span_text.specs.Names.{begins_name, continues_name}
-use Rattle.span_text.proofs.Bytes.{apart}
-use Rattle.text_grammar.specs.Grammar.{Leaf, quiet, said}
+use Rattle.text_grammar.specs.Grammar.{Leaf}
 use Rattle.text_grammar.specs.Values.{leaf_kids}
 use Rattle.sh_grammar.specs.Shape as shape
 use Rattle.sh_grammar.specs.Shape.{plain, exact, double, tilde, param, subst as listing, arith, no_part, part}
-use Rattle.sh_grammar.specs.Bytes.{Text, Context, is_join, clear, starts, expands, is_special_param, is_bare_dollar, is_escaped, in_word, in_double, in_body, in_brace, in_quoted_brace, in_body_brace, in_body_pattern, has_single, has_double, is_literal, literal_run, unit_starts}
-use Rattle.sh_grammar.specs.State.{State, Node, part_node, move, parts_in}
-use Rattle.sh_grammar.specs.Steps.{Known, Read, run_step, behind, escaped_read, quoted_run, literal_read, is_empty, escaped_behind}
+use Rattle.sh_grammar.specs.Bytes.{Text, Context, is_join, clear, starts, expands, is_special_param, is_escaped, in_word, in_double, in_body, in_brace, in_quoted_brace, in_body_brace, in_body_pattern, has_single, is_literal, literal_run, unit_starts}
+use Rattle.sh_grammar.specs.State.{State, Node, part_node}
+use Rattle.sh_grammar.specs.Steps.{Known, run_step, behind, escaped_read, quoted_run, literal_read}
 use Rattle.sh_grammar.specs.Table.{Step}
 use Rattle.sh_grammar.specs.Table as table
-use Rattle.sh_grammar.proofs.Tools as tools
 use Rattle.sh_grammar.proofs.Tools.{If, then, chosen_by, if_some}
 use Rattle.sh_printing.specs.Marks.{is_quote}
-use Rattle.sh_printing.specs.Spellable.{is_literal_text, ends_with, is_unjoined, keeps, is_exact_byte, is_escaped_text, exact_fits_by, exact_fits}
+use Rattle.sh_printing.specs.Spellable.{ends_with, is_unjoined, keeps, is_exact_byte, exact_fits_by}
 use Rattle.sh_printing.specs.Printing.{continued}
-use Rattle.sh_printing.specs.Printable.{is_plain_part, is_expansion, first_is, plain_fits, part_fits, parts_fit}
-use Rattle.sh_printing.proofs.BackBytes.{both, isnt, neither, joins, no_join, clear_is, goes_at}
+use Rattle.sh_printing.specs.Printable.{is_plain_part, is_expansion, first_is, plain_fits, part_fits}
+use Rattle.sh_printing.proofs.BackBytes.{both, isnt, joins, clear_is, goes_at}
 use Rattle.sh_printing.proofs.ExactBytes.{clear_free, clear_twice, is_stuck, unit_stuck, Ran, literal_ran}
 use Rattle.sh_printing.proofs.ExactRules.{Stepped}
 use Rattle.sh_printing.proofs.ExactStates.{Fine, Unjoined, Clean}

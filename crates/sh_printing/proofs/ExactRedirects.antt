@@ -1,15 +1,14 @@
 -- Redirections that were read fit.
-use Rattle.std.proofs.Common.{◌≡◌, ℕ, zero, suc, ◌+◌, ◌-◌, ◌≤◌, ◌<◌, Bool, true, false, cond, List, [], ◌∷◌, ◌++◌, length, Option, Some, None, ◌⊎◌, inl, inr, refl, sym, ap, subst, ◌∙◌, append_assoc, arith, leb-true, lt-ltb}
-use Rattle.std.specs.Prelude.{◌||◌, ◌&&◌, not, ◌==◌, nat_lt, nat_le}
-use Rattle.std.specs.List.{list_all}
-use Rattle.std.proofs.lemmas.Bool.{false≢true, true≢false}
+use Rattle.std.proofs.Common.{◌≡◌, ℕ, zero, suc, ◌+◌, ◌-◌, ◌≤◌, Bool, true, false, cond, List, [], ◌∷◌, ◌++◌, length, Option, Some, None, inl, inr, refl, sym, ap, subst, ◌∙◌, arith, leb-true, lt-ltb}
+use Rattle.std.specs.Prelude.{◌&&◌, not, ◌==◌, nat_lt, nat_le}
+use Rattle.std.proofs.lemmas.Bool.{false≢true}
 use Rattle.span_text.specs.Names.{is_digit}
 use Rattle.text_grammar.specs.Grammar.{Leaf, step, rule, choose, pass}
 use Rattle.text_grammar.specs.Values.{leaf_kids}
 use Rattle.sh_grammar.specs.Shape as shape
 use Rattle.sh_grammar.specs.Shape.{plain, no_part, part, no_redirect, redirect, RedirectOp}
 use Rattle.sh_grammar.specs.Bytes.{Text, in_word, in_body, clear, gap, starts, digit_run, unit_starts}
-use Rattle.sh_grammar.specs.Tokens.{Op, Io, Less, Great, DGreat, DLess, DLessDash, LessAnd, GreatAnd, Word, Other, Newline, SemiSemi, Semi, AndIf, OrIf, Pipe, Open, Close, code, front, token, is_token, semi_at, and_at, pipe_at, here_at, less_at, great_at, after_byte, goes_on_with, digits_word, word_at, is_angle}
+use Rattle.sh_grammar.specs.Tokens.{Op, Io, Less, Great, DGreat, DLess, DLessDash, LessAnd, GreatAnd, Word, code, front, token, is_token, semi_at, and_at, pipe_at, here_at, less_at, great_at, after_byte, goes_on_with, digits_word, word_at}
 use Rattle.sh_grammar.specs.Expansions.{◌>>=◌}
 use Rattle.sh_grammar.specs.Bodies.{Owed, delimiter_for}
 use Rattle.sh_grammar.specs.State.{State, Node, digit_node, op_node, aimed_node, redirect_node, word_node, word_in, digit_in, aimed_in, op_in}
@@ -19,14 +18,13 @@ use Rattle.sh_grammar.specs.Table as table
 use Rattle.sh_grammar.specs.Acts.{act}
 use Rattle.sh_grammar.proofs.Tools.{If, then, chosen_by}
 use Rattle.sh_printing.specs.Spellable.{keeps}
-use Rattle.sh_printing.specs.Printable.{fd_fits, is_copied_word, literal_body, ends_line, word_fits, parts_fit, redirects_fit}
+use Rattle.sh_printing.specs.Printable.{fd_fits, is_copied_word, ends_line, word_fits, parts_fit, redirects_fit}
 use Rattle.sh_printing.proofs.BackBytes.{both}
 use Rattle.sh_printing.proofs.ExactParts.{by_step}
-use Rattle.sh_printing.proofs.ExactRules.{Stepped, Both, Ruled, Sat}
+use Rattle.sh_printing.proofs.ExactRules.{Stepped, Sat}
 use Rattle.sh_printing.proofs.ExactStates.{Fine, Forth, Back, BodyFits, Owes, is_lines}
-use Rattle.sh_printing.proofs.ExactSteps.{nothing_said, skip, stop}
 use Rattle.sh_printing.proofs.ExactNodes.{is_redirect, is_aimed}
-use Rattle.sh_printing.proofs.ExactClaims.{One, OneNode, WordOk, Says}
+use Rattle.sh_printing.proofs.ExactClaims.{One, OneNode, Says}
 
 -- ---- descriptors
 

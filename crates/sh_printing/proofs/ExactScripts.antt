@@ -3,22 +3,21 @@ use Rattle.std.proofs.Common.{◌≡◌, ℕ, zero, suc, Bool, true, false, List
 use Rattle.std.specs.Prelude.{◌&&◌}
 use Rattle.std.specs.List.{list_all}
 use Rattle.std.proofs.lemmas.Bool.{false≢true}
-use Rattle.text_grammar.specs.Grammar.{Leaf, step, seq, choose, star, rule}
+use Rattle.text_grammar.specs.Grammar.{Leaf, step, choose, rule}
 use Rattle.text_grammar.specs.Derivations.{Tree, empty, leaf, both, first, second, more, node, At}
-use Rattle.text_grammar.specs.Values.{kids, leaf_kids, vals}
+use Rattle.text_grammar.specs.Values.{kids, vals}
 use Rattle.text_grammar.specs.Place.{FrontAt}
 use Rattle.text_grammar.proofs.Rules.{vals_sound}
 use Rattle.text_grammar.proofs.Twice.{end_allowed}
 use Rattle.sh_grammar.specs.Shape as shape
 use Rattle.sh_grammar.specs.Bytes.{Text, in_body}
-use Rattle.sh_grammar.specs.Expansions.{◌>>=◌}
 use Rattle.sh_grammar.specs.Bodies.{Owed, bodies_at}
-use Rattle.sh_grammar.specs.State.{State, start_at, fresh, Node, word_node, word_in, chains_in}
+use Rattle.sh_grammar.specs.State.{State, start_at, fresh, Node, word_in}
 use Rattle.sh_grammar.specs.Steps.{Known, run_step, none_owed}
 use Rattle.sh_grammar.specs.Tokens.{End, Newline, token, is_token}
 use Rattle.sh_grammar.specs.Table.{Rule, line, ends, piece, body_parts}
 use Rattle.sh_grammar.specs.Acts.{act}
-use Rattle.sh_grammar.specs.Spelling.{Lang, knowing, no_parts, sh, levels, sh_with, PieceAt, chains_of, Reads}
+use Rattle.sh_grammar.specs.Spelling.{Lang, knowing, sh, levels, sh_with, PieceAt, chains_of, Reads}
 use Rattle.sh_grammar.proofs.Known.{expand_in, known_in, sh_knows, allows_in}
 use Rattle.sh_grammar.proofs.Tools.{If, then, chosen_by, if_some}
 use Rattle.sh_printing.specs.Spellable.{keeps}

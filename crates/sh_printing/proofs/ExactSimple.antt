@@ -1,39 +1,32 @@
 -- Simple commands and functions that were read fit.
-use Rattle.std.proofs.Common.{◌≡◌, ℕ, zero, suc, Bool, true, false, cond, List, [], ◌∷◌, ◌++◌, Option, Some, None, ◌⊎◌, inl, inr, refl, sym, ap, subst, ◌∙◌, append_assoc}
-use Rattle.std.specs.Prelude.{◌||◌, ◌&&◌, not, ◌==◌}
+use Rattle.std.proofs.Common.{◌≡◌, ℕ, zero, suc, Bool, true, false, List, [], ◌∷◌, ◌++◌, Option, Some, None, inl, inr, refl, sym, ap, subst, ◌∙◌}
+use Rattle.std.specs.Prelude.{◌||◌, ◌&&◌}
 use Rattle.std.specs.List.{list_all}
 use Rattle.std.proofs.lemmas.Bool.{false≢true, true≢false}
-use Rattle.span_text.specs.Names.{begins_name, continues_name, is_digit, is_name}
-use Rattle.span_text.proofs.Bytes.{apart, first_is_name}
-use Rattle.text_grammar.specs.Grammar.{Leaf, step, rule, choose, star, pass}
+use Rattle.span_text.specs.Names.{begins_name, is_name}
+use Rattle.text_grammar.specs.Grammar.{Leaf, rule, choose, pass}
 use Rattle.text_grammar.specs.Values.{leaf_kids}
 use Rattle.sh_grammar.specs.Shape as shape
 use Rattle.sh_grammar.specs.Shape.{no_word, word, no_value, value, no_assign, assign, no_redirect, redirect}
-use Rattle.sh_grammar.specs.Bytes.{Text, in_word, is_join, clear, comment_end, gap, starts, with_byte, run_from, is_literal, is_plain, literal_run, begins_unit, has_single, has_double, unit_starts, name_run}
-use Rattle.sh_grammar.specs.Tokens.{Op, Open, Word, code, front, token, is_token, bare, digits_word, word_at, is_angle, name_next, redirect_next, assign_next, simple_next, function_next, opens, name_at, assign_at, behind, ◌>>=◌, opens_compound, is_other_key}
-use Rattle.sh_grammar.specs.State.{State, Node, text_node, word_node, redirect_node, assign_node, command_node, words_in, assigns_in, redirects_in, text_in, value_in, command_in}
+use Rattle.sh_grammar.specs.Bytes.{Text, in_word, clear, gap, name_run}
+use Rattle.sh_grammar.specs.Tokens.{name_next, redirect_next, assign_next, simple_next, name_at, assign_at, behind, ◌>>=◌}
+use Rattle.sh_grammar.specs.State.{State, Node, text_node, word_node, redirect_node, assign_node, command_node, words_in, assigns_in, redirects_in, text_in, value_in}
 use Rattle.sh_grammar.specs.Steps.{Known, run_step, holds}
 use Rattle.sh_grammar.specs.Table.{Test, Rule, body}
 use Rattle.sh_grammar.specs.Table as table
 use Rattle.sh_grammar.specs.Acts.{act}
 use Rattle.sh_grammar.proofs.Tools.{If, chosen_by}
 use Rattle.sh_grammar.proofs.Tools as tools
-use Rattle.sh_printing.specs.Spellable.{is_reserved_text}
 use Rattle.sh_printing.specs.Printing.{has_assign, has_word}
-use Rattle.sh_printing.specs.Printable.{has_redirect, has_compound, is_assignment, is_reserved_word, name_fits, word_fits, words_fit, value_fits, assigns_fit, redirects_fit, kind_fits, command_fits}
-use Rattle.sh_printing.proofs.BackBytes.{both, isnt, neither, joins, no_join, clear_is, run_stops, goes_at}
-use Rattle.sh_printing.proofs.BackTokens.{front_word}
-use Rattle.sh_printing.proofs.BackWordFronts.{solid_front}
+use Rattle.sh_printing.specs.Printable.{has_redirect, is_assignment, is_reserved_word, name_fits, word_fits, words_fit, value_fits, assigns_fit, redirects_fit, command_fits}
+use Rattle.sh_printing.proofs.BackBytes.{both, neither}
 use Rattle.sh_printing.proofs.ExactParams.{name_of}
 use Rattle.sh_printing.proofs.ExactParts.{by_step}
-use Rattle.sh_printing.proofs.ExactRules.{Stepped, Both, Turns, Ruled, Sat}
+use Rattle.sh_printing.proofs.ExactRules.{Stepped, Turns, Ruled, Sat}
 use Rattle.sh_printing.proofs.ExactStates.{Fine}
-use Rattle.sh_printing.proofs.ExactSteps.{nothing_said, skip, stop}
 use Rattle.sh_printing.proofs.ExactNodes.{each_of, is_prefix, is_suffix, is_redirect, redirect_before}
-use Rattle.sh_printing.proofs.ExactClaims.{One, OneNode, WordOk, SuffixOk, SimpleOk, Says}
-use Rattle.sh_printing.proofs.ExactFirst.{gap_solid, reserved_is}
+use Rattle.sh_printing.proofs.ExactClaims.{One, OneNode, SuffixOk, SimpleOk, Says}
 use Rattle.sh_printing.proofs.ExactLists.{turns_all, each_is, node_each}
-use Rattle.sh_printing.proofs.ExactCompound.{Named, named}
 
 -- ---- assignments
 

@@ -1,5 +1,5 @@
 -- What each state of a reading is: its bytes have no joins in a body that is expanded, and the bodies that come are those that were named.
-use Rattle.std.proofs.Common.{◌≡◌, ℕ, ◌+◌, Bool, true, false, List, [], ◌∷◌, ◌++◌, length}
+use Rattle.std.proofs.Common.{◌≡◌, ◌+◌, Bool, true, false, List, [], ◌∷◌, ◌++◌, length}
 use Rattle.sh_grammar.specs.Bytes.{Text}
 use Rattle.sh_grammar.specs.Bodies.{Owed}
 use Rattle.sh_grammar.specs.State.{State}

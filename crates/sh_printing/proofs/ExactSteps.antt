@@ -1,20 +1,20 @@
 -- What steps give: nothing, a level, the head of an expansion.
-use Rattle.std.proofs.Common.{◌≡◌, ℕ, suc, ◌-◌, Bool, true, false, cond, List, [], ◌∷◌, ◌++◌, Option, Some, None, refl, sym, ap, subst, ◌∙◌, append-nil, arith}
+use Rattle.std.proofs.Common.{◌≡◌, ℕ, Bool, true, false, cond, List, [], ◌∷◌, ◌++◌, Option, Some, None, refl, ap, subst, ◌∙◌, append-nil}
 use Rattle.std.specs.Prelude.{◌&&◌, nat_lt}
 use Rattle.std.proofs.lemmas.Bool.{false≢true}
-use Rattle.text_grammar.specs.Grammar.{Leaf, quiet, said}
+use Rattle.text_grammar.specs.Grammar.{Leaf}
 use Rattle.text_grammar.specs.Values.{leaf_kids}
 use Rattle.sh_grammar.specs.Bytes.{Text, clear}
-use Rattle.sh_grammar.specs.Tokens.{End, Newline, token, is_token, is_key, bare}
+use Rattle.sh_grammar.specs.Tokens.{End, Newline, token, is_token, is_key}
 use Rattle.sh_grammar.specs.Expansions.{◌>>=◌, behind_two, dollar_sum}
 use Rattle.sh_grammar.specs.Bodies.{bodies_at}
-use Rattle.sh_grammar.specs.State.{State, Sum, move, Node}
-use Rattle.sh_grammar.specs.Steps.{Known, Read, limit, run_step, behind, word_place, bytes_read, line_read, none_owed, with_sums, silent}
+use Rattle.sh_grammar.specs.State.{State, Node}
+use Rattle.sh_grammar.specs.Steps.{Known, Read, limit, run_step, behind, word_place, bytes_read, none_owed}
 use Rattle.sh_grammar.specs.Sums.{sum_run}
 use Rattle.sh_grammar.specs.Table.{Step, op, key, line, ends, to_word, quote, open_subst, close_brace, open_sum, sum_bytes, operand, sum_open, sum_close, enter, leave}
-use Rattle.sh_grammar.proofs.Tools.{If, then, chosen_by, if_some}
+use Rattle.sh_grammar.proofs.Tools.{If, chosen_by}
 use Rattle.sh_printing.proofs.ExactParts.{by_step}
-use Rattle.sh_printing.proofs.ExactRules.{Stepped, Both, Sat, above, step_depth}
+use Rattle.sh_printing.proofs.ExactRules.{Stepped}
 
 -- ---- steps that give nothing to the tree
 

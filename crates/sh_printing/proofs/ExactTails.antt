@@ -1,12 +1,12 @@
 -- Steps leave an end of what was ahead: what holds of each end of a text holds of what they leave.
-use Rattle.std.proofs.Common.{◌≡◌, ℕ, suc, Bool, true, false, cond, List, [], ◌∷◌, ◌++◌, length, Option, Some, None, refl, sym, ap, subst, ◌∙◌}
-use Rattle.std.specs.Prelude.{◌||◌, ◌&&◌, not, ◌==◌, nat_lt}
+use Rattle.std.proofs.Common.{ℕ, Bool, true, false, cond, [], ◌∷◌, length, Option, Some, None}
+use Rattle.std.specs.Prelude.{◌||◌, not, ◌==◌}
 use Rattle.span_text.specs.Names.{begins_name, continues_name, is_digit}
 use Rattle.sh_grammar.specs.Shape.{Param, FillTest, count}
-use Rattle.sh_grammar.specs.Bytes.{Text, Context, is_join, clear_from, clear, comment_end, is_blank, gap_from, gap, with_byte, run_from, is_literal, in_word, literal_run, name_run, digit_run, starts, unit_starts, is_escaped}
+use Rattle.sh_grammar.specs.Bytes.{Text, Context, is_join, clear_from, clear, comment_end, is_blank, gap_from, gap, with_byte, run_from, is_literal, in_word, literal_run, name_run, digit_run, starts, unit_starts}
 use Rattle.sh_grammar.specs.Tokens.{Op, Other, Io, Word, Newline, Semi, SemiSemi, AndIf, OrIf, Pipe, Less, Great, DGreat, DLess, DLessDash, LessAnd, GreatAnd, after_byte, goes_on_with, semi_at, and_at, pipe_at, here_at, less_at, great_at, is_angle, digits_word, word_at, front, token, name_at, assign_at, tilde_at}
 use Rattle.sh_grammar.specs.Tokens as tokens
-use Rattle.sh_grammar.specs.Expansions.{◌>>=◌, Head, named_as, special, one_digit, param_at, long_param_at, fill_test, filling, fills, trims, operator_at, is_close, tail, length_head, or_else, is_dash, hash_head, is_hash, head_at, behind, behind_two, dollar_param, dollar_head, dollar_sum}
+use Rattle.sh_grammar.specs.Expansions.{◌>>=◌, Head, special, param_at, long_param_at, fill_test, filling, fills, trims, operator_at, is_close, tail, length_head, or_else, is_dash, hash_head, is_hash, head_at, behind, behind_two, dollar_param, dollar_head, dollar_sum}
 use Rattle.sh_grammar.proofs.Tools.{If, then, chosen, chosen_some}
 
 -- it holds of an end of what it holds of

@@ -1,33 +1,26 @@
 -- Words that were read fit at their place.
-use Rattle.std.proofs.Common.{◌≡◌, ℕ, zero, suc, Bool, true, false, cond, List, [], ◌∷◌, ◌++◌, Option, Some, None, ◌⊎◌, inl, inr, refl, sym, ap, subst, ◌∙◌, eqb-true}
-use Rattle.std.specs.Prelude.{◌||◌, ◌&&◌, not, ◌==◌}
+use Rattle.std.proofs.Common.{◌≡◌, ℕ, Bool, true, false, cond, List, [], ◌∷◌, ◌++◌, Option, Some, None, ◌⊎◌, inl, inr, refl, sym, ap, subst, ◌∙◌, eqb-true}
+use Rattle.std.specs.Prelude.{◌||◌, not, ◌==◌}
 use Rattle.std.proofs.lemmas.Bool.{false≢true, true≢false}
-use Rattle.span_text.specs.Names.{begins_name, continues_name}
-use Rattle.span_text.specs.KnownNames.{same_text}
-use Rattle.span_text.proofs.Bytes.{apart, first_is_name}
-use Rattle.text_grammar.specs.Grammar.{Leaf, quiet, said, rule}
+use Rattle.text_grammar.specs.Grammar.{Leaf}
 use Rattle.text_grammar.specs.Values.{leaf_kids}
 use Rattle.sh_grammar.specs.Shape as shape
 use Rattle.sh_grammar.specs.Shape.{plain, exact, double, tilde, param, subst as listing, arith, no_part, part, no_word, word}
-use Rattle.sh_grammar.specs.Bytes.{Text, Context, in_word, is_join, clear, comment_end, is_blank, gap_from, gap, starts, with_byte, run_from, is_plain, is_escaped, is_literal, literal_run, unit_starts, name_run}
-use Rattle.sh_grammar.specs.Tokens.{Key, key_text, Word, is_token, bare, is_whole, is_key, opens_compound, is_other_key, name_next, name_at, assign_at, assign_next, behind, is_something, ◌>>=◌, tilde_at, tilde_next}
-use Rattle.sh_grammar.specs.Tokens as tokens
-use Rattle.sh_grammar.specs.State.{State, Node, part_node, word_node, parts_in}
-use Rattle.sh_grammar.specs.Steps.{Known, run_step, holds, word_place}
+use Rattle.sh_grammar.specs.Bytes.{Text, in_word, is_join, clear, starts, with_byte, run_from, is_plain, is_escaped, is_literal, literal_run, unit_starts}
+use Rattle.sh_grammar.specs.Tokens.{behind, is_something, ◌>>=◌, tilde_at, tilde_next}
+use Rattle.sh_grammar.specs.State.{State, Node, part_node, parts_in}
+use Rattle.sh_grammar.specs.Steps.{Known, run_step, holds}
 use Rattle.sh_grammar.specs.Table.{Rule, body}
 use Rattle.sh_grammar.specs.Table as table
-use Rattle.sh_grammar.specs.Acts.{act}
 use Rattle.sh_grammar.proofs.Tools.{If, then, chosen_by}
-use Rattle.sh_printing.specs.Spellable.{is_text, is_reserved_text, begins_with, begins_assign, equals_behind}
-use Rattle.sh_printing.specs.Printable.{has_part, behind_tilde, reads_tilde, plain_begins, plain_fits, is_assignment, is_reserved_word, part_fits, parts_fit, word_fits, patterns_fit}
-use Rattle.sh_printing.proofs.BackBytes.{both, three, isnt, neither, joins, no_join, clear_is, goes_at}
+use Rattle.sh_printing.specs.Printable.{behind_tilde, reads_tilde, part_fits, word_fits}
+use Rattle.sh_printing.proofs.BackBytes.{neither, joins, clear_is}
 use Rattle.sh_printing.proofs.ExactBytes.{clear_free, clear_twice, is_stuck, Ran, literal_ran}
-use Rattle.sh_printing.proofs.ExactParts.{Begins, Fronts, PlainRun, OnePart, same_byte, by_step}
-use Rattle.sh_printing.proofs.ExactRules.{Stepped, Both, Turns, Ruled, Sat}
+use Rattle.sh_printing.proofs.ExactParts.{Begins, Fronts, PlainRun, same_byte, by_step}
+use Rattle.sh_printing.proofs.ExactRules.{Stepped, Ruled, Sat}
 use Rattle.sh_printing.proofs.ExactStates.{Fine}
-use Rattle.sh_printing.proofs.ExactSteps.{nothing_said, skip, stop}
-use Rattle.sh_printing.proofs.ExactClaims.{One, PartsOk, PartsOfWord, WordFront, WordOk, Says}
-use Rattle.sh_printing.proofs.ExactExpansions.{parts_turns, parts_behind, plain_front}
+use Rattle.sh_printing.proofs.ExactClaims.{PartsOk, PartsOfWord, WordFront, Says}
+use Rattle.sh_printing.proofs.ExactExpansions.{parts_turns, parts_behind}
 
 -- ---- parts behind the first
 
