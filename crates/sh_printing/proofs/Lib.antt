@@ -51,6 +51,7 @@ pub mod ExactEnding
 pub mod ExactEnds
 pub mod ExactExpansions
 pub mod ExactFirst
+pub mod ExactForms
 pub mod ExactFunctions
 pub mod ExactInvariants
 pub mod ExactKeeps
