@@ -68,4 +68,5 @@ pub mod ExactSimple
 pub mod ExactStates
 pub mod ExactSteps
 pub mod ExactTails
+pub mod ExactTokens
 pub mod ExactWords
