@@ -45,6 +45,7 @@ pub mod ExactAll
 pub mod ExactBack
 pub mod ExactBodies
 pub mod ExactBytes
+pub mod ExactCells
 pub mod ExactClaims
 pub mod ExactCompound
 pub mod ExactEnding
