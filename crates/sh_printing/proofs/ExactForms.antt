@@ -23,9 +23,9 @@ use Rattle.sh_printing.proofs.BackForms.{Good, IsVariable, is_sh_infix}
 -- ---- less deep
 
 -- What fits so deep fits less deep, and what fits between parentheses fits without them, or in them.
-record Falls (p : Placed) : Type 0 where
-  down : (w d n k : ℕ) → p.fits w (suc d) n ≡ Some k → p.fits w d n ≡ Some k
-  lift : (w d n k : ℕ) → nat_lt d limit ≡ true → p.fits 0 (suc d) n ≡ Some k → p.fits w d n ≡ Some k
+pub record Falls (p : Placed) : Type 0 where
+  pub down : (w d n k : ℕ) → p.fits w (suc d) n ≡ Some k → p.fits w d n ≡ Some k
+  pub lift : (w d n k : ℕ) → nat_lt d limit ≡ true → p.fits 0 (suc d) n ≡ Some k → p.fits w d n ≡ Some k
 
 abbrev Sinks : Inside → Type 0
 Sinks f = (d n k : ℕ) → f (suc d) n ≡ Some k → f d n ≡ Some k
@@ -33,7 +33,7 @@ Sinks f = (d n k : ℕ) → f (suc d) n ≡ Some k → f d n ≡ Some k
 falls_one : (v : Bool) (f : Inside) → Sinks f → Falls (record { is_variable = v; fits = λ w d n. f d n })
 falls_one v f s = record { down = λ w d n k e. s d n k e; lift = λ w d n k l e. s d n k e }
 
-less : (d : ℕ) → nat_lt (suc d) limit ≡ true → nat_lt d limit ≡ true
+pub less : (d : ℕ) → nat_lt (suc d) limit ≡ true → nat_lt d limit ≡ true
 less d e = let h = ltb-true (suc d) limit e in lt-ltb d limit (omega arith)
 
 level_down : (f : Inside) (d n k : ℕ) (t l u : Bool) → nat_lt (suc d) limit ≡ l → nat_lt d limit ≡ u → Sinks f → cond t (f (suc d) n) (cond l (f (suc (suc d)) n) None) ≡ Some k → cond t (f d n) (cond u (f (suc d) n) None) ≡ Some k
@@ -88,7 +88,7 @@ placing : (check : ℕ → ℕ → Bool) (x : Expr-F Expr) → placed check (rol
 unfolding placed
 placing check x = fold-roll-Expr Placed (place_step check) x
 
-abbrev Deeper : (ℕ → ℕ → Bool) → Expr → Type 0
+abbrev pub Deeper : (ℕ → ℕ → Bool) → Expr → Type 0
 Deeper check e = Falls (placed check e)
 
 rolled : (check : ℕ → ℕ → Bool) (x : Expr-F Expr) → Falls (place_step check (map-Expr Expr Placed (placed check) x)) → Deeper check (roll-Expr x)
@@ -117,7 +117,7 @@ layer_falls check r (layer.Assign a o b) =
 layer_falls check r (layer.Choose a b c) =
     rolled check (layer.Choose a.0 b.0 c.0) (falls_level 2 (λ d n. ((placed check a.0).fits 3 d n >>= λ k. (placed check b.0).fits 0 d k) >>= λ k. (placed check c.0).fits 2 d k) (sinks_three (placed check a.0) (placed check b.0) (placed check c.0) a.1 b.1 c.1))
 
-falls : (check : ℕ → ℕ → Bool) → Rises check → (e : Expr) → Deeper check e
+pub falls : (check : ℕ → ℕ → Bool) → Rises check → (e : Expr) → Deeper check e
 falls check r = ind-Expr (Deeper check) (λ x y is. subst (λ (z : Expr-F Expr). Deeper check (roll-Expr z)) is (layer_falls check r y))
 
 -- ---- the place of a form

@@ -48,6 +48,7 @@ pub mod ExactBytes
 pub mod ExactCells
 pub mod ExactClaims
 pub mod ExactCompound
+pub mod ExactDeeper
 pub mod ExactEnding
 pub mod ExactEnds
 pub mod ExactExpansions
