@@ -69,6 +69,7 @@ pub mod ExactScripts
 pub mod ExactSimple
 pub mod ExactStates
 pub mod ExactSteps
+pub mod ExactSums
 pub mod ExactTails
 pub mod ExactTokens
 pub mod ExactWords
