@@ -1,4 +1,4 @@
--- What some text spells can be printed, where arithmetic expansions fit.
+-- What some text spells can be printed.
 use Rattle.std.proofs.Common.{◌≡◌, ℕ, zero, suc, Bool, true, false, List, [], ◌∷◌, ◌++◌, Option, Some, None, refl, sym, ap, subst, ◌∙◌, append-nil}
 use Rattle.std.specs.Prelude.{◌&&◌}
 use Rattle.std.specs.List.{list_all}
@@ -28,6 +28,7 @@ use Rattle.sh_printing.proofs.ExactNodes.{each_of, is_chain, chains_fit}
 use Rattle.sh_printing.proofs.ExactRedirects.{Expands}
 use Rattle.sh_printing.proofs.ExactAll.{Held, says_at}
 use Rattle.sh_printing.proofs.ExactEnds.{ending}
+use Rattle.sh_printing.proofs.ExactHeld.{held}
 
 -- ---- where nothing is owed
 
@@ -161,7 +162,11 @@ pieces_chains : (m : Helds) (ts : List (Tree Rule Node)) (s e : State) → Front
 pieces_chains m [] s e f = refl
 pieces_chains m (t ∷ ts) s e f = each_of (is_chain false 0) (kids (sh_with []) t) (chains_of ts) (piece_chains m levels t s f.0 f.1) (pieces_chains m ts f.0 e f.2)
 
--- what some text spells can be printed
+-- the same, by what is said of each rule
 pub spelled_fits : Helds → (text : Text) (s : shape.Script) → Reads text s → script_printable s ≡ true
 spelled_fits m text s r =
     subst (λ (z : shape.Script). list_fits false 0 z ≡ true) r.is (chains_fit false 0 (chains_of r.pieces) (pieces_chains m r.pieces (start_at 0 text) r.end r.reads))
+
+-- WHAT SOME TEXT SPELLS CAN BE PRINTED
+pub spelled_is_printable : (text : Text) (s : shape.Script) → Reads text s → script_printable s ≡ true
+spelled_is_printable text s r = spelled_fits held text s r

@@ -86,19 +86,19 @@ cells_fit checks d cs x r c h =
 -- ---- cells that are read, with what their operands are
 
 -- from so deep, behind n operands, to so deep and so many: the values are the operands
-abbrev Holds : Bool → ℕ → ℕ → ℕ → ℕ → List Cell → List Node → Type 0
+abbrev pub Holds : Bool → ℕ → ℕ → ℕ → ℕ → List Cell → List Node → Type 0
 Holds i to many d n [] vs = (d ≡ to) × (n ≡ many) × (vs ≡ [])
 Holds i to many d n (byte b ∷ es) vs = (e : ℕ) × ByteTakes d b e × Holds i to many e n es vs
 Holds i to many d n (expansion m ∷ es) vs = (p : shape.Part) × (ws : List Node) × (m ≡ n) × (vs ≡ part_node p ∷ ws) × (operand_fits i d (part p no_part) ≡ true) × Holds i to many d (suc n) es ws
 
-holds_both : (i : Bool) (a p b q d n : ℕ) (es fs : List Cell) (vs ws : List Node) → Holds i a p d n es vs → Holds i b q a p fs ws → Holds i b q d n (es ++ fs) (vs ++ ws)
+pub holds_both : (i : Bool) (a p b q d n : ℕ) (es fs : List Cell) (vs ws : List Node) → Holds i a p d n es vs → Holds i b q a p fs ws → Holds i b q d n (es ++ fs) (vs ++ ws)
 holds_both i a p b q d n [] fs vs ws h g =
     subst (λ (z : List Node). Holds i b q d n fs (z ++ ws)) (sym h.2) (subst (λ (z : ℕ). Holds i b q z n fs ws) (sym h.0) (subst (λ (z : ℕ). Holds i b q a z fs ws) (sym h.1) g))
 holds_both i a p b q d n (byte x ∷ es) fs vs ws h g = (h.0, h.1, holds_both i a p b q h.0 n es fs vs ws h.2 g)
 holds_both i a p b q d n (expansion m ∷ es) fs vs ws h g =
     (h.0, h.1 ++ ws, h.2, ap (λ (z : List Node). z ++ ws) h.3, h.4, holds_both i a p b q d (suc n) es fs h.1 ws h.5 g)
 
-holds_put : (i : Bool) (d n : ℕ) (w : Text) → list_all (λ b. not (b == 40 || b == 41)) w ≡ true → Holds i d n d n (put w []) []
+pub holds_put : (i : Bool) (d n : ℕ) (w : Text) → list_all (λ b. not (b == 40 || b == 41)) w ≡ true → Holds i d n d n (put w []) []
 holds_put i d n [] e = (refl, refl, refl)
 holds_put i d n (b ∷ bs) e =
     let x = both (not (b == 40 || b == 41)) (list_all (λ b. not (b == 40 || b == 41)) bs) e in
@@ -106,7 +106,7 @@ holds_put i d n (b ∷ bs) e =
     (d, inr (inr (y.0, y.1, refl)), holds_put i d n bs x.1)
 
 -- values that are operands, before an expression
-holds_nodes : (i : Bool) (to many d n : ℕ) (es : List Cell) (vs : List Node) (e : Expr) (ws : shape.Words) → Holds i to many d n es vs → (operands_in (vs ++ expr_node e ∷ []) ≡ operands_in vs) × (sum_in (vs ++ expr_node e ∷ []) ws ≡ arith_part e ws)
+pub holds_nodes : (i : Bool) (to many d n : ℕ) (es : List Cell) (vs : List Node) (e : Expr) (ws : shape.Words) → Holds i to many d n es vs → (operands_in (vs ++ expr_node e ∷ []) ≡ operands_in vs) × (sum_in (vs ++ expr_node e ∷ []) ws ≡ arith_part e ws)
 holds_nodes i to many d n [] vs e ws h = subst (λ (z : List Node). (operands_in (z ++ expr_node e ∷ []) ≡ operands_in z) × (sum_in (z ++ expr_node e ∷ []) ws ≡ arith_part e ws)) (sym h.2) (refl, refl)
 holds_nodes i to many d n (byte b ∷ es) vs e ws h = holds_nodes i to many h.0 n es vs e ws h.2
 holds_nodes i to many d n (expansion m ∷ es) vs e ws h =
@@ -125,10 +125,10 @@ length_more (g ∷ pre) f zero e = absurd (omega (arith, e))
 length_more (g ∷ pre) f (suc n) e = let i = length_more pre f n (omega (arith, e)) in omega (arith, i)
 
 -- the cells, checked by what their operands are
-abbrev Checked : Bool → List (ℕ → Bool) → ℕ → ℕ → ℕ → ℕ → List Cell → List Node → Type 0
+abbrev pub Checked : Bool → List (ℕ → Bool) → ℕ → ℕ → ℕ → ℕ → List Cell → List Node → Type 0
 Checked i pre to many d n es vs = Cells (nth_check (pre ++ operand_checks i (operands_in vs))) to many d n es × (many ≡ length (pre ++ operand_checks i (operands_in vs)))
 
-holds_cells : (i : Bool) (pre : List (ℕ → Bool)) (to many d n : ℕ) (es : List Cell) (vs : List Node) → n ≡ length pre → Holds i to many d n es vs → Checked i pre to many d n es vs
+pub holds_cells : (i : Bool) (pre : List (ℕ → Bool)) (to many d n : ℕ) (es : List Cell) (vs : List Node) → n ≡ length pre → Holds i to many d n es vs → Checked i pre to many d n es vs
 holds_cells i pre to many d n [] vs e h =
     subst (Checked i pre to many d n []) (sym h.2) ((h.0, h.1), sym h.1 ∙ (e ∙ ap length (sym (append-nil pre))))
 holds_cells i pre to many d n (byte b ∷ es) vs e h = let r = holds_cells i pre to many h.0 n es vs e h.2 in ((h.0, n, (h.1, refl), r.0), r.1)

@@ -55,6 +55,7 @@ pub mod ExactExpansions
 pub mod ExactFirst
 pub mod ExactForms
 pub mod ExactFunctions
+pub mod ExactHeld
 pub mod ExactInvariants
 pub mod ExactKeeps
 pub mod ExactLast
