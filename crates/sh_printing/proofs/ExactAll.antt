@@ -40,8 +40,15 @@ sat_map k F Q R h pass d s e vs a = a
 sat_map k F Q R h fail d s e vs a = a
 sat_map k F Q R h (step p) d s e vs a = a
 sat_map k F Q R h (seq f g) d s e vs a =
-    record { middle = a.middle; fine = a.fine; ones = a.ones; others = a.others; before = sat_map k F Q R h f d s a.middle a.ones a.before;
-      rest = sat_map k F Q R h g (Rattle.sh_printing.proofs.ExactRules.after f d) a.middle e a.others a.rest; is = a.is }
+    record {
+      middle = a.middle;
+      fine = a.fine;
+      ones = a.ones;
+      others = a.others;
+      before = sat_map k F Q R h f d s a.middle a.ones a.before;
+      rest = sat_map k F Q R h g (Rattle.sh_printing.proofs.ExactRules.after f d) a.middle e a.others a.rest;
+      is = a.is;
+    }
 sat_map k F Q R h (choose p f g) d s e vs (inl a) = inl (a.0, sat_map k F Q R h f d s e vs a.1)
 sat_map k F Q R h (choose p f g) d s e vs (inr a) = inr (a.0, sat_map k F Q R h g d s e vs a.1)
 sat_map k F Q R h (star p g) d s e vs a = (a.0, turns_map F p (Sat k F Q g d) (Sat k F R g d) (λ s e vs x. sat_map k F Q R h g d s e vs x) a.0 s e vs a.1)
@@ -148,6 +155,6 @@ pub says_at : (k : Known) (i : Bool) → Expands k → Held k i → (t : Tree Ru
 says_at k i x m t r d s e h f b a =
     let Q : Claim = λ r d s e vs. Says i r d s e vs × m.more r d s e vs in
     let j = sat_at k (Forth i) (Back k i) Q (keeps k i) (deep k) even
-      (λ q d s e vs h f g c. (says_rule k i x q d s e vs f (λ y z. sum_of k i m q d s e vs z c) (sat_map k (Fine k i) Q (Says i) (λ r d s e vs p. p.0) (body q) d s e vs c), m.rules q d s e vs h f g c))
-      t (rule r) d s e refl h f b a in
+    (λ q d s e vs h f g c. (says_rule k i x q d s e vs f (λ y z. sum_of k i m q d s e vs z c) (sat_map k (Fine k i) Q (Says i) (λ r d s e vs p. p.0) (body q) d s e vs c), m.rules q d s e vs h f g c))
+    t (rule r) d s e refl h f b a in
     j.claim.0

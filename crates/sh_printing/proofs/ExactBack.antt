@@ -79,7 +79,8 @@ others_newline = record {
   great = λ t. not_on 1 62 t _ _ (λ u. refl) (not_on 1 38 t _ _ (λ u. refl) (not_on 1 124 t _ _ (λ u. refl) refl));
   word = λ t. word_isnt_1 t;
   open' = λ t. refl;
-  other = λ t. refl }
+  other = λ t. refl;
+}
 
 others_close : Others 8
 unfolding code semi_at and_at pipe_at less_at here_at great_at
@@ -91,7 +92,8 @@ others_close = record {
   great = λ t. not_on 8 62 t _ _ (λ u. refl) (not_on 8 38 t _ _ (λ u. refl) (not_on 8 124 t _ _ (λ u. refl) refl));
   word = λ t. word_isnt_8 t;
   open' = λ t. refl;
-  other = λ t. refl }
+  other = λ t. refl;
+}
 
 close_isnt_newline : (bs : Text) → Isnt 1 (Close, bs)
 unfolding code
@@ -148,7 +150,8 @@ steady_back : (k : Known) (i : Bool) (s m : State) → Steady s m → BackTo k i
 steady_back k i s m h b = record {
   later = b.later;
   whole = b.whole ∙ ap (λ (z : List Text). z ++ b.later) h.found;
-  owes = subst (λ (z : List Owed). Owes i z b.later) h.owed b.owes }
+  owes = subst (λ (z : List Owed). Owes i z b.later) h.owed b.owes;
+}
 
 owes_front : (i : Bool) (os us : List Owed) (bodies : List Text) → Owes i (os ++ us) bodies → Owes i os bodies
 owes_front i [] us bodies h = tt
@@ -159,7 +162,8 @@ named_back : (k : Known) (i : Bool) (s m : State) (us : List Owed) → m.found �
 named_back k i s m us f o b = record {
   later = b.later;
   whole = b.whole ∙ ap (λ (z : List Text). z ++ b.later) f;
-  owes = owes_front i s.owed us b.later (subst (λ (z : List Owed). Owes i z b.later) o b.owes) }
+  owes = owes_front i s.owed us b.later (subst (λ (z : List Owed). Owes i z b.later) o b.owes);
+}
 
 abbrev BackIn : Known → Bool → State → Read → Type 0
 BackIn k i s o = If (λ (x : Leaf Node × State). BackTo k i s x.1) o
@@ -177,7 +181,8 @@ found_back : (k : Known) (i : Bool) (s m : State) (x : List Text × Text) → Bo
 found_back k i s m x h f b = record {
   later = x.0 ++ b.later;
   whole = b.whole ∙ (ap (λ (z : List Text). z ++ b.later) f ∙ append_assoc s.found x.0 b.later);
-  owes = h.owes b.later }
+  owes = h.owes b.later;
+}
 
 unjoined_behind : (i : Bool) (t : Text) → Clean i t → is_token Newline t ≡ true → i ≡ true → is_unjoined false (token t).1 ≡ true
 unjoined_behind false t c n e = absurd (false≢true e)
@@ -188,7 +193,7 @@ unfolding run_step
 line_back k i s f =
     chosen_by (BackIn k i s) (is_token Newline s.bytes) _ _
     (λ n. then (Bodies i s.owed) (λ (x : Leaf Node × State). BackTo k i s x.1) (bodies_at s.owed (token s.bytes).1) _ (bodies_fit i s.owed (token s.bytes).1 (unjoined_behind i s.bytes f.clean n))
-      (λ x h b. found_back k i s _ x h refl b)) (λ n. tt)
+    (λ x h b. found_back k i s _ x h refl b)) (λ n. tt)
 
 here_step_back : (k : Known) (i : Bool) (s : State) → BackIn k i s (run_step k here s)
 unfolding run_step
@@ -219,4 +224,5 @@ step_back k i p s f = steady_backs k i s (run_step k p s) (steady k p s refl)
 pub keeps : (k : Known) (i : Bool) → Keeps k (Forth i) (Back k i)
 keeps k i = record {
   forth = forth k i;
-  back = λ p s e x h f b. if_some (λ (y : Leaf Node × State). BackTo k i s y.1) (run_step k p s) (x, e) h (step_back k i p s f) b }
+  back = λ p s e x h f b. if_some (λ (y : Leaf Node × State). BackTo k i s y.1) (run_step k p s) (x, e) h (step_back k i p s f) b;
+}

@@ -225,7 +225,8 @@ longer c b bs text rest j g r =
       rest_free = r.rest_free;
       rest_ends = r.rest_ends;
       literal = λ s. rw (f, literal_in c b bs text rest r g s, r.literal s) refl;
-      dollar = λ e. last_dollar c b bs text rest r g e }
+      dollar = λ e. last_dollar c b bs text rest r g e;
+    }
 
 -- no byte more
 stopped : (c : Context) (b : ℕ) (bs : Text) → is_join b bs ≡ false → is_literal c b bs ≡ false → Ran c (b ∷ bs) [] (b ∷ bs)

@@ -1,18 +1,17 @@
 -- The tokens of an arithmetic expansion's cells: parentheses, operands and names as the cells have them.
 use Rattle.std.proofs.Common.{◌≡◌, ℕ, zero, suc, Bool, true, false, cond, List, [], ◌∷◌, ◌++◌, Option, Some, None, ◌⊎◌, inl, inr, refl, sym, ap, subst, ◌∙◌, append_assoc, append-nil, arith}
-use Rattle.std.specs.Prelude.{◌||◌, ◌&&◌, not, ◌==◌, nat_le, nat_lt}
+use Rattle.std.specs.Prelude.{◌&&◌, ◌==◌, nat_le, nat_lt}
 use Rattle.std.specs.List.{list_all}
 use Rattle.std.proofs.lemmas.Bool.{false≢true, true≢false}
 use Rattle.span_text.specs.Names.{is_name, continues_name}
 use Rattle.span_text.specs.Constant.{number_of, radix_of, digits_of, unsigned_constant}
-use Rattle.span_text.specs.ExprTokens.{Cell, byte, expansion, is_byte, without_joins, Token, number, name, indexed, operand, sign, sign_of, longer, Begun, gap, word, operator, whole, operator_if, is_gap, begun, grown, greatest, number_if, finished, ◌then◌, if_begun, tokens}
+use Rattle.span_text.specs.ExprTokens.{Cell, byte, expansion, is_byte, without_joins, Token, number, name, sign, sign_of, longer, Begun, gap, word, operator, whole, operator_if, is_gap, begun, grown, greatest, number_if, finished, ◌then◌, if_begun, tokens}
 use Rattle.span_text.specs.declared.expr.BinOp.TheVariants as op
 use Rattle.span_text.specs.declared.sign.Infix.TheVariants as infixes
 use Rattle.span_text.specs.declared.sign.Sign.{Sign}
-use Rattle.span_text.specs.declared.sign.Sign.TheVariants.{Between, Assign, Not, Complement, Increment, Decrement, Question, Colon, Open, Close, EndIndex}
+use Rattle.span_text.specs.declared.sign.Sign.TheVariants.{Between, Assign, Not}
 use Rattle.sh_grammar.proofs.Tools.{If, chosen_by, if_some}
 use Rattle.sh_grammar.specs.Steps.{limit}
-use Rattle.sh_printing.specs.Spellable.{assigns}
 use Rattle.sh_printing.proofs.BackBytes.{both}
 use Rattle.sh_printing.proofs.ExactTokens.{SignTakes, Takes, Flow}
 
@@ -222,7 +221,7 @@ grows check to many d n e k (word w) (byte b) cs p h =
     chosen_by (If (Further check to many d n cs)) (continues_name b) _ _
     (λ y. let q = no_paren b continues_name name_40 name_41 y in (h.0, h.1, (p.0 ∙ plain_byte e b h.0 q.0 q.1 h.2.0, p.1 ∙ h.2.1), h.3))
     (λ y. chosen_by (If (Further check to many d n cs)) (b == 91 && is_name w) _ _
-      (λ z. let q = no_paren b (λ v. v == 91) refl refl (both (b == 91) (is_name w) z).0 in (h.0, h.1, (p.0 ∙ plain_byte e b h.0 q.0 q.1 h.2.0, p.1 ∙ h.2.1), h.3)) (λ z. tt))
+    (λ z. let q = no_paren b (λ v. v == 91) refl refl (both (b == 91) (is_name w) z).0 in (h.0, h.1, (p.0 ∙ plain_byte e b h.0 q.0 q.1 h.2.0, p.1 ∙ h.2.1), h.3)) (λ z. tt))
 
 -- ---- all tokens
 

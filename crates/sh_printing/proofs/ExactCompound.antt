@@ -44,8 +44,11 @@ compound_command_rule k i d s e vs a =
     let c = a.before.claim in
     let t = turns_all (Fine k i) table.redirect_begins (Ruled (Fine k i) (Says i table.redirect) d) (is_redirect i d) (λ s e ws r. node_each (is_redirect i d) ws r.claim) a.rest.0 a.middle e a.others a.rest.1 in
     let is : vs ≡ kind_node c.one ∷ a.others = a.is ∙ ap (λ (z : List Node). z ++ a.others) c.is in
-    record { one = shape.command c.one (redirects_in a.others); is = ap (λ (z : List Node). command_node (shape.command (kind_in z) (redirects_in z)) ∷ []) is;
-      fits = (c.fits.0, rw (c.fits.1 (has_redirect (redirects_in a.others)), redirects_of i d a.others t) refl) }
+    record {
+      one = shape.command c.one (redirects_in a.others);
+      is = ap (λ (z : List Node). command_node (shape.command (kind_in z) (redirects_in z)) ∷ []) is;
+      fits = (c.fits.0, rw (c.fits.1 (has_redirect (redirects_in a.others)), redirects_of i d a.others t) refl);
+    }
 
 pub compound_rule : (k : Known) (i : Bool) (d : ℕ) (s e : State) (vs : List Node) → Sat k (Fine k i) (Says i) (body table.compound) d s e vs → Kinds i d vs
 compound_rule k i d s e vs (inl a) = a.1.claim
@@ -131,7 +134,7 @@ pub if_branch_rule : (k : Known) (i : Bool) (d : ℕ) (s e : State) (vs : List N
 if_branch_rule k i d s e vs a =
     let b = a.rest in let o = a.before.claim in let p = b.rest.claim in
     let is : vs ≡ script_node o.one ∷ script_node p.one ∷ [] =
-      a.is ∙ (ap (λ (z : List Node). z ++ a.others) o.is ∙ ap (λ (z : List Node). script_node o.one ∷ z) (skip b.is (nothing_said (table.key tokens.Then) refl b.before) ∙ p.is)) in
+    a.is ∙ (ap (λ (z : List Node). z ++ a.others) o.is ∙ ap (λ (z : List Node). script_node o.one ∷ z) (skip b.is (nothing_said (table.key tokens.Then) refl b.before) ∙ p.is)) in
     record { one = branch_node o.one p.one; is = ap (λ (z : List Node). branch_node (script_in z) (second_script_in z) ∷ []) is; fits = rw (o.fits.0, o.fits.1, p.fits.0, p.fits.1) refl }
 
 pub elif_rule : (k : Known) (i : Bool) (d : ℕ) (s e : State) (vs : List Node) → Sat k (Fine k i) (Says i) (body table.elif_branch) d s e vs → OneNode (is_branch i d) vs
@@ -153,7 +156,7 @@ do_body_rule k i d s e vs a =
 loop_fits : (i : Bool) (d : ℕ) (until : Bool) (vs ones others ends : List Node) (o : Listed i (suc d) ones) (p : Listed i (suc d) others) → nat_lt d limit ≡ true → vs ≡ ones ++ (others ++ ends) → ends ≡ [] → Kinds i d (kind_node (shape.loop until (script_in vs) (second_script_in vs)) ∷ [])
 loop_fits i d until vs ones others ends o p l h e =
     let is : vs ≡ script_node o.one ∷ script_node p.one ∷ [] =
-      h ∙ (ap (λ (z : List Node). z ++ (others ++ ends)) o.is ∙ ap (λ (z : List Node). script_node o.one ∷ z) (stop refl e ∙ p.is)) in
+    h ∙ (ap (λ (z : List Node). z ++ (others ++ ends)) o.is ∙ ap (λ (z : List Node). script_node o.one ∷ z) (stop refl e ∙ p.is)) in
     record { one = shape.loop until o.one p.one; is = ap (λ (z : List Node). kind_node (shape.loop until (script_in z) (second_script_in z)) ∷ []) is; fits = (refl, λ r. rw (l, o.fits.0, o.fits.1, p.fits.0, p.fits.1) refl) }
 
 pub while_rule : (k : Known) (i : Bool) (d : ℕ) (s e : State) (vs : List Node) → Sat k (Fine k i) (Says i) (body table.while_loop) d s e vs → Kinds i d (act table.while_loop vs)
@@ -210,13 +213,18 @@ for_rule k i d s e vs a =
     let b = a.rest in let g = b.rest in let h = g.rest in let j = h.rest in
     let n = named b.before in let o = j.before.claim in
     let is : vs ≡ text_node n.name ∷ (h.ones ++ script_node o.one ∷ []) =
-      skip a.is (nothing_said (table.key tokens.For) refl a.before) ∙ (b.is ∙ (ap (λ (z : List Node). z ++ b.others) n.is ∙ ap (λ (z : List Node). text_node n.name ∷ z)
-      (skip g.is (nothing_said table.enter refl g.before) ∙ (h.is ∙ ap (λ (z : List Node). h.ones ++ z) (stop j.is (nothing_said table.leave refl j.rest) ∙ o.is))))) in
+    skip a.is (nothing_said (table.key tokens.For) refl a.before) ∙ (b.is ∙ (ap (λ (z : List Node). z ++ b.others) n.is ∙ ap (λ (z : List Node). text_node n.name ∷ z)
+    (skip g.is (nothing_said table.enter refl g.before) ∙ (h.is ∙ ap (λ (z : List Node). h.ones ++ z) (stop j.is (nothing_said table.leave refl j.rest) ∙ o.is))))) in
     let body : script_in (h.ones ++ script_node o.one ∷ []) ≡ o.one = script_behind i (suc d) h.ones (script_node o.one ∷ []) h.before.claim in
-    record { one = shape.walk n.name (listed_in (h.ones ++ script_node o.one ∷ [])) (script_in (h.ones ++ script_node o.one ∷ []));
+    record {
+      one = shape.walk n.name (listed_in (h.ones ++ script_node o.one ∷ [])) (script_in (h.ones ++ script_node o.one ∷ []));
       is = ap (λ (z : List Node). kind_node (shape.walk (text_in z) (listed_in z) (script_in z)) ∷ []) is;
-      fits = (refl, λ r. subst (λ (z : shape.Script). kind_fits i d r (shape.walk n.name (listed_in (h.ones ++ script_node o.one ∷ [])) z) ≡ true) (sym body)
-        (rw (enters g.before, n.fits, listed_before i (suc d) h.ones o.one h.before.claim, o.fits.0, o.fits.1) refl)) }
+      fits = (
+        refl,
+        λ r. subst (λ (z : shape.Script). kind_fits i d r (shape.walk n.name (listed_in (h.ones ++ script_node o.one ∷ [])) z) ≡ true) (sym body)
+            (rw (enters g.before, n.fits, listed_before i (suc d) h.ones o.one h.before.claim, o.fits.0, o.fits.1) refl),
+      );
+    }
 
 maybe_in : (k : Known) (i : Bool) (d : ℕ) (s e : State) (vs : List Node) → Sat k (Fine k i) (Says i) (choose (table.key_next tokens.In) (rule table.for_in) pass) d s e vs → list_all (is_listed i d) vs ≡ true
 maybe_in k i d s e vs (inl a) = a.1.claim
@@ -248,10 +256,13 @@ case_rule k i d s e vs a =
     let b = a.rest in let g = b.rest in let h = g.rest in let j = h.rest in
     let w = g.before.claim in
     let is : vs ≡ word_node w.one ∷ j.ones =
-      skip a.is (nothing_said (table.key tokens.Case) refl a.before) ∙ (skip b.is (nothing_said table.enter refl b.before) ∙ (g.is ∙ (ap (λ (z : List Node). z ++ g.others) w.is ∙ ap (λ (z : List Node). word_node w.one ∷ z)
-      (skip h.is h.before.claim ∙ stop j.is (nothing_said table.leave refl j.rest))))) in
-    record { one = shape.cases w.one (items_in j.ones); is = ap (λ (z : List Node). kind_node (shape.cases (word_in z) (items_in z)) ∷ []) is;
-      fits = (refl, λ r. rw (enters b.before, w.fits.0, items_of i (suc d) j.ones j.before.claim) refl) }
+    skip a.is (nothing_said (table.key tokens.Case) refl a.before) ∙ (skip b.is (nothing_said table.enter refl b.before) ∙ (g.is ∙ (ap (λ (z : List Node). z ++ g.others) w.is ∙ ap (λ (z : List Node). word_node w.one ∷ z)
+    (skip h.is h.before.claim ∙ stop j.is (nothing_said table.leave refl j.rest))))) in
+    record {
+      one = shape.cases w.one (items_in j.ones);
+      is = ap (λ (z : List Node). kind_node (shape.cases (word_in z) (items_in z)) ∷ []) is;
+      fits = (refl, λ r. rw (enters b.before, w.fits.0, items_of i (suc d) j.ones j.before.claim) refl);
+    }
 
 pub case_in_rule : (k : Known) (i : Bool) (d : ℕ) (s e : State) (vs : List Node) → Sat k (Fine k i) (Says i) (body table.case_in) d s e vs → list_all (is_item i d) vs ≡ true
 case_in_rule k i d s e vs a =
@@ -291,7 +302,7 @@ item_fits i d vs ones others x o p l h =
     let is : vs ≡ ws ++ script_node x ∷ [] = h ∙ ap (λ (z : List Node). z ++ (others ++ script_node x ∷ [])) o.is in
     each_is (is_item i d) (ap (λ (z : List Node). item_node (words_in z) (script_in z) ∷ []) is)
     (subst (λ (z : shape.Script). list_all (is_item i d) (item_node (words_in (ws ++ script_node x ∷ [])) z ∷ []) ≡ true) (sym (script_of_item i d ws (script_node x ∷ []) all))
-      (rw (first_pattern i d o.one (others ++ script_node x ∷ []) o.fits, patterns_before i d ws x all, l) refl))
+    (rw (first_pattern i d o.one (others ++ script_node x ∷ []) o.fits, patterns_before i d ws x all, l) refl))
 
 pub case_item_rule : (k : Known) (i : Bool) (d : ℕ) (s e : State) (vs : List Node) → Sat k (Fine k i) (Says i) (body table.case_item) d s e vs → list_all (is_item i d) (act table.case_item vs) ≡ true
 case_item_rule k i d s e vs a =

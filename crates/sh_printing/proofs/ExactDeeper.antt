@@ -1,6 +1,6 @@
 -- What fits so deep fits less deep.
-use Rattle.std.proofs.Common.{◌≡◌, ℕ, zero, suc, Bool, true, false, Option, Some, None, List, [], ◌∷◌, length, refl, sym, ap, subst, ◌∙◌, eqb-true, eq-eqb}
-use Rattle.std.specs.Prelude.{◌||◌, ◌&&◌, not, ◌==◌, nat_lt}
+use Rattle.std.proofs.Common.{◌≡◌, ℕ, zero, suc, Bool, true, false, Option, Some, None, List, length, refl, ap, eqb-true, eq-eqb}
+use Rattle.std.specs.Prelude.{◌||◌, ◌&&◌, not, nat_lt}
 use Rattle.std.proofs.lemmas.Bool.{false≢true}
 use Rattle.span_text.specs.Names.{is_name}
 use Rattle.span_text.specs.declared.expr.Expr.{Expr}
@@ -9,7 +9,7 @@ use Rattle.sh_grammar.specs.Shape.{plain, exact, double, tilde, param, subst as 
 use Rattle.sh_grammar.specs.Bytes.{Context, in_word, in_double, in_body, has_double, fill_context, trim_context}
 use Rattle.sh_grammar.specs.Steps.{limit}
 use Rattle.sh_printing.specs.Printing.{continued, has_assign, has_word}
-use Rattle.sh_printing.specs.Spellable.{is_digits, is_long, bare_fits, param_fits, exact_fits, placed, is_number, nth_check, sum_fits, begins_with, is_reserved_text}
+use Rattle.sh_printing.specs.Spellable.{is_digits, is_long, bare_fits, param_fits, placed, is_number, nth_check, sum_fits, begins_with, is_reserved_text}
 use Rattle.sh_printing.specs.Printable.{has_part, has_redirect, has_chain, has_stage, has_branch, has_compound, is_expansion, is_length, changes_mark, behind_tilde, reads_tilde, plain_fits, plain_begins, fd_fits, is_copied_word, literal_body, ends_line, name_fits, part_fits, parts_fit, operand_fits, operand_checks, word_fits, words_fit, patterns_fit, value_fits, assigns_fit, redirects_fit, command_fits, kind_fits, branches_fit, otherwise_fits, for_words_fit, items_fit, stages_fit, pipeline_fits, links_fit, chain_fits, list_fits}
 use Rattle.sh_printing.proofs.BackBytes.{both, three, four, five}
 use Rattle.sh_printing.proofs.ExactForms.{Rises, falls, less}

@@ -48,7 +48,7 @@ run_unjoined p [] m u = refl
 run_unjoined p (b ∷ bs) m u =
     let j = isnt (is_join b bs) (both (not (is_join b bs)) (is_unjoined (b == 92) bs) u).0 in
     rw j (chosen_by (λ (x : Text × Text). is_unjoined false x.1 ≡ true) (p b) (with_byte b (run_from (λ b bs. p b) false bs)) ([], b ∷ bs)
-      (λ e. run_unjoined p bs m (unjoined_after b bs (false, u) (apart p b 92 e m))) (λ e. u))
+    (λ e. run_unjoined p bs m (unjoined_after b bs (false, u) (apart p b 92 e m))) (λ e. u))
 
 no_backslash_name : continues_name 92 ≡ false
 unfolding continues_name
@@ -154,7 +154,7 @@ unfolding run_step
 solid_dollar {s = s} c st =
     by_step (λ (m : State) (ws : List Node). Solid m.bytes)
     (then (λ (x : Param × Text). Unquoted x × (x.1 ≡ [] → ⊥)) (λ (x : Leaf Node × State). Solid x.1.bytes) (dollar_param s.bytes) _
-      (both_if (Unquoted {A = Param}) (λ (x : Param × Text). x.1 ≡ [] → ⊥) (dollar_param s.bytes) (dollar_param_unjoined s.bytes c.0) (dollar_param_last s.bytes c)) (λ x h. h)) st
+    (both_if (Unquoted {A = Param}) (λ (x : Param × Text). x.1 ≡ [] → ⊥) (dollar_param s.bytes) (dollar_param_unjoined s.bytes c.0) (dollar_param_last s.bytes c)) (λ x h. h)) st
 
 closed_solid : (s : State) (x : Head × Text) → ClosedUnquoted x → ClosedEnds x → If (λ (y : Leaf Node × State). Solid y.1.bytes) (closed_read s x)
 closed_solid s (closed_head p o, rest) u l = (u, l)
@@ -166,8 +166,8 @@ unfolding run_step
 solid_closed {s = s} c st =
     by_step (λ (m : State) (ws : List Node). Solid m.bytes)
     (chosen (If (λ (x : Leaf Node × State). Solid x.1.bytes)) (nat_lt s.depth limit) _ _
-      (then (λ (x : Head × Text). ClosedUnquoted x × ClosedEnds x) (λ (x : Leaf Node × State). Solid x.1.bytes) (dollar_head s.bytes) _
-        (both_if ClosedUnquoted ClosedEnds (dollar_head s.bytes) (dollar_head_unjoined s.bytes c.0) (dollar_head_last s.bytes c)) (λ x h. closed_solid s x h.0 h.1)) tt) st
+    (then (λ (x : Head × Text). ClosedUnquoted x × ClosedEnds x) (λ (x : Leaf Node × State). Solid x.1.bytes) (dollar_head s.bytes) _
+    (both_if ClosedUnquoted ClosedEnds (dollar_head s.bytes) (dollar_head_unjoined s.bytes c.0) (dollar_head_last s.bytes c)) (λ x h. closed_solid s x h.0 h.1)) tt) st
 
 pub solid_quote : {k : Known} {d : ℕ} {s e : State} {vs : List Node} → Clean true s.bytes → Stepped k Ends table.quote d s e vs → Solid e.bytes
 unfolding run_step

@@ -85,7 +85,7 @@ quoted_end [] = tt
 quoted_end (b ∷ bs) =
     chosen_by (If (λ (x : Text × Text). b ∷ bs ≡ x.0 ++ 39 ∷ x.1)) (b == 39) _ _ (λ e. ap (λ (z : ℕ). z ∷ bs) (eqb-true b 39 e))
     (λ e. chosen (If (λ (x : Text × Text). b ∷ bs ≡ x.0 ++ 39 ∷ x.1)) (b == 0) _ _ tt
-      (then (λ (x : Text × Text). bs ≡ x.0 ++ 39 ∷ x.1) (λ (x : Text × Text). b ∷ bs ≡ x.0 ++ 39 ∷ x.1) (quoted_run bs) _ (quoted_end bs) (λ x h. ap (λ (z : Text). b ∷ z) h)))
+    (then (λ (x : Text × Text). bs ≡ x.0 ++ 39 ∷ x.1) (λ (x : Text × Text). b ∷ bs ≡ x.0 ++ 39 ∷ x.1) (quoted_run bs) _ (quoted_end bs) (λ x h. ap (λ (z : Text). b ∷ z) h)))
 
 behind_front : (P : Text → Type 0) → Tails P → (xs ys : Text) → P (xs ++ ys) → P ys
 behind_front P k [] ys h = h
@@ -96,11 +96,14 @@ unfolding run_step
 exact_end {s = s} c st =
     by_step (PartEnd s)
     (then (λ (z : Text). clear s.bytes ≡ 39 ∷ z) (λ (x : Leaf Node × State). PartEnd s x.1 (leaf_kids x.0)) (behind 39 (clear s.bytes)) _ (behind_is 39 (clear s.bytes))
-      (λ rest h. then (λ (x : Text × Text). rest ≡ x.0 ++ 39 ∷ x.1) (λ (x : Leaf Node × State). PartEnd s x.1 (leaf_kids x.0)) (quoted_run rest) _ (quoted_end rest)
-        (λ x q. let whole : clear s.bytes ≡ (39 ∷ x.0) ++ 39 ∷ x.1 = h ∙ ap (λ (z : Text). 39 ∷ z) q in
-          record { one = exact x.0; is = refl;
-            rests = λ u. unjoined_after 39 x.1 (behind_front Unjoined unjoined_tails (39 ∷ x.0) (39 ∷ x.1) (subst Unjoined whole (clear_ends Unjoined unjoined_tails s.bytes c.0))) refl;
-            last = λ n. no_last true s.bytes (39 ∷ x.0) 39 c refl (whole ∙ ap (λ (z : Text). (39 ∷ x.0) ++ 39 ∷ z) n) refl }))) st
+    (λ rest h. then (λ (x : Text × Text). rest ≡ x.0 ++ 39 ∷ x.1) (λ (x : Leaf Node × State). PartEnd s x.1 (leaf_kids x.0)) (quoted_run rest) _ (quoted_end rest)
+    (λ x q. let whole : clear s.bytes ≡ (39 ∷ x.0) ++ 39 ∷ x.1 = h ∙ ap (λ (z : Text). 39 ∷ z) q in
+    record {
+      one = exact x.0;
+      is = refl;
+      rests = λ u. unjoined_after 39 x.1 (behind_front Unjoined unjoined_tails (39 ∷ x.0) (39 ∷ x.1) (subst Unjoined whole (clear_ends Unjoined unjoined_tails s.bytes c.0))) refl;
+      last = λ n. no_last true s.bytes (39 ∷ x.0) 39 c refl (whole ∙ ap (λ (z : Text). (39 ∷ x.0) ++ 39 ∷ z) n) refl;
+    }))) st
 
 free_clear : (t : Text) → is_unjoined false t ≡ true → clear t ≡ t
 free_clear [] u = clear_is [] refl
@@ -114,9 +117,12 @@ escaped_gives c s [] k h = tt
 escaped_gives c s (b ∷ bs) k h =
     let j : is_join 92 (b ∷ bs) ≡ false = subst (λ (z : Text). joins z ≡ false) h (clear_free s.bytes) in
     chosen (If (λ (x : Leaf Node × State). PartEnd s x.1 (leaf_kids x.0))) (is_escaped c b) _ _
-    (record { one = exact (b ∷ []); is = refl;
+    (record {
+      one = exact (b ∷ []);
+      is = refl;
       rests = λ u. behind_escape b bs (subst (λ (z : Text). is_unjoined false z ≡ true) (sym (free_clear s.bytes u) ∙ h) u);
-      last = λ n. no_last true s.bytes (92 ∷ []) b k refl (h ∙ ap (λ (z : Text). 92 ∷ b ∷ z) n) j }) tt
+      last = λ n. no_last true s.bytes (92 ∷ []) b k refl (h ∙ ap (λ (z : Text). 92 ∷ b ∷ z) n) j;
+    }) tt
 
 escaped_end : {k : Known} {d : ℕ} {s e : State} {vs : List Node} (c : Context) → Clean true s.bytes → Stepped k Ends (table.escaped c) d s e vs → PartEnd s e vs
 unfolding run_step
@@ -153,7 +159,7 @@ run_rests c [] u = refl
 run_rests c (b ∷ bs) u =
     let j = isnt (is_join b bs) (both (not (is_join b bs)) (is_unjoined (b == 92) bs) u).0 in
     rw j (chosen_by (λ (x : Text × Text). is_unjoined false x.1 ≡ true) (is_literal c b bs) (with_byte b (run_from (is_literal c) false bs)) ([], b ∷ bs)
-      (λ l. run_rests c bs (next_start c false b bs (b == 92) refl u l)) (λ l. u))
+    (λ l. run_rests c bs (next_start c false b bs (b == 92) refl u l)) (λ l. u))
 
 literal_rests : (c : Context) (t : Text) → is_unjoined false t ≡ true → is_unjoined false (literal_run c (clear t)).1 ≡ true
 unfolding literal_run
@@ -162,9 +168,12 @@ literal_rests c t u = run_rests c (clear t) (subst (λ (z : Text). is_unjoined f
 literal_gives : (c : Context) (s : State) (text rest : Text) → Clean true s.bytes → literal_run c (clear s.bytes) ≡ (text, rest) → If (λ (x : Leaf Node × State). PartEnd s x.1 (leaf_kids x.0)) (literal_read s (text, rest))
 literal_gives c s [] rest k r = tt
 literal_gives c s (b ∷ bs) rest k r =
-    record { one = plain (b ∷ bs); is = refl;
+    record {
+      one = plain (b ∷ bs);
+      is = refl;
       rests = λ u. subst (λ (z : Text × Text). is_unjoined false z.1 ≡ true) r (literal_rests c s.bytes u);
-      last = λ n. literal_last true c s.bytes b bs rest k refl r n }
+      last = λ n. literal_last true c s.bytes b bs rest k refl r n;
+    }
 
 literal_end : {k : Known} {d : ℕ} {s e : State} {vs : List Node} (c : Context) → Clean true s.bytes → Stepped k Ends (table.literal c) d s e vs → PartEnd s e vs
 unfolding run_step
@@ -198,7 +207,7 @@ unfolding run_step
 closed_one {s = s} st =
     by_step (λ (m : State) (ws : List Node). PartOf ws)
     (chosen (If (λ (x : Leaf Node × State). PartOf (leaf_kids x.0))) (Rattle.std.specs.Prelude.nat_lt s.depth limit) _ _
-      (then (λ (x : Head × Text). Unit {0}) (λ (x : Leaf Node × State). PartOf (leaf_kids x.0)) (dollar_head s.bytes) _ (any_if (dollar_head s.bytes)) (λ x h. closed_given s x)) tt) st
+    (then (λ (x : Head × Text). Unit {0}) (λ (x : Leaf Node × State). PartOf (leaf_kids x.0)) (dollar_head s.bytes) _ (any_if (dollar_head s.bytes)) (λ x h. closed_given s x)) tt) st
 
 made : (p : shape.Part) → PartOf (part_node p ∷ [])
 made p = record { one = p; is = refl; fits = tt }
@@ -233,7 +242,8 @@ others_end = record {
   great = λ t. not_on 0 62 t _ _ (λ u. refl) (not_on 0 38 t _ _ (λ u. refl) (not_on 0 124 t _ _ (λ u. refl) refl));
   word = λ t. word_isnt_0 t;
   open' = λ t. refl;
-  other = λ t. refl }
+  other = λ t. refl;
+}
 
 some_token : (t : Text) → (code (front t).0 == 0) ≡ true → t ≡ []
 unfolding code
@@ -294,7 +304,7 @@ unfolding run_step gap
 ends_bytes {s = s} u c st =
     by_step (λ (m : State) (ws : List Node). s.bytes ≡ [])
     (chosen_by (If (λ (x : Leaf Node × State). s.bytes ≡ [])) (is_token End s.bytes && none_owed s.owed) _ _
-      (λ t. gap_lines s.bytes u c.1 (end_gap s.bytes (both (is_token End s.bytes) (none_owed s.owed) t).0)) (λ t. tt)) st
+    (λ t. gap_lines s.bytes u c.1 (end_gap s.bytes (both (is_token End s.bytes) (none_owed s.owed) t).0)) (λ t. tt)) st
 
 ends_on : (p q : shape.Part) (qs : shape.Parts) → ends_line (part p (part q qs)) ≡ ends_line (part q qs)
 ends_on (plain text) q qs = refl
@@ -365,5 +375,5 @@ last_rule k r d s e vs f a = tt
 pub ending : (k : Known) (d : ℕ) (text : Text) (t : Tree Rule Node) (e : State) → keeps true text ≡ true → is_lines text ≡ true → At (knowing k) t (rule body_parts) (start_at d text) e → ends_line (word_in (kids (knowing k) t)) ≡ true
 ending k d text t e u l a =
     let j = sat_at k (Forth true) (λ s. Unit {0}) Last (record { forth = forth k true; back = λ p s e x h f b. tt }) (deep k) even
-      (λ q d s e vs h f g c. last_rule k q d s e vs f.0 c) t (rule body_parts) d (start_at d text) e refl refl (record { clean = ((false, u), l); counted = refl }) tt a in
+    (λ q d s e vs h f g c. last_rule k q d s e vs f.0 c) t (rule body_parts) d (start_at d text) e refl refl (record { clean = ((false, u), l); counted = refl }) tt a in
     j.claim u

@@ -107,7 +107,7 @@ unfolding run_step
 dollar_says k i d c s e vs st =
     by_step (OneExpansion i d c s)
     (then (λ (x : shape.Param × Text). Rattle.sh_printing.proofs.ExactParams.IsBare x.0 x.1) (λ (x : Leaf Node × State). OneExpansion i d c s x.1 (leaf_kids x.0)) (dollar_param s.bytes) _ (dollar_param_bare s.bytes)
-      (λ x h. record { one = param x.0 as_is; is = refl; expands = refl; fits = λ behind n. h d (continued behind) n })) st
+    (λ x h. record { one = param x.0 as_is; is = refl; expands = refl; fits = λ behind n. h d (continued behind) n })) st
 
 closed_gives : (i : Bool) (d : ℕ) (c : Context) (s : State) (h : Head) (rest : Text) → nat_lt d limit ≡ true → HeadFits h rest →
     If (λ (x : Leaf Node × State). OneExpansion i d c s x.1 (leaf_kids x.0)) (closed_read s (h, rest))
@@ -123,9 +123,9 @@ unfolding run_step
 closed_says k i d c s e vs st =
     by_step (OneExpansion i d c s)
     (chosen_by (If (λ (x : Leaf Node × State). OneExpansion i d c s x.1 (leaf_kids x.0))) (nat_lt s.depth limit) _ _
-      (λ l. then HeadIn (λ (x : Leaf Node × State). OneExpansion i d c s x.1 (leaf_kids x.0)) (dollar_head s.bytes) _ (dollar_head_fits s.bytes)
-        (λ x h. closed_gives i d c s x.0 x.1 (subst (λ (z : ℕ). nat_lt z limit ≡ true) st.depth l) h))
-      (λ l. tt)) st
+    (λ l. then HeadIn (λ (x : Leaf Node × State). OneExpansion i d c s x.1 (leaf_kids x.0)) (dollar_head s.bytes) _ (dollar_head_fits s.bytes)
+    (λ x h. closed_gives i d c s x.0 x.1 (subst (λ (z : ℕ). nat_lt z limit ≡ true) st.depth l) h))
+    (λ l. tt)) st
 
 -- ---- `${a-`, `${a%`
 
@@ -236,7 +236,8 @@ fill_rule k i c d s e vs a t =
       one = filled o.head (parts_in g.ones);
       is = ap (λ (z : List Node). part_node (filled_in z (parts_in z)) ∷ []) is;
       expands = filled_expands o.head (parts_in g.ones);
-      fits = λ behind n. fill_says i d c behind o.head (parts_in g.ones) a.middle.bytes kind o.fits (enters b.before) r.fits none }
+      fits = λ behind n. fill_says i d c behind o.head (parts_in g.ones) a.middle.bytes kind o.fits (enters b.before) r.fits none;
+    }
 
 pub trim_rule : (k : Known) (i : Bool) (c : Context) (d : ℕ) (s e : State) (vs : List Node) → Sat k (Fine k i) (Says i) (body (table.trim c)) d s e vs → Says i (table.trim c) d s e (act (table.trim c) vs)
 trim_rule k i c d s e vs a t =
@@ -256,7 +257,8 @@ trim_rule k i c d s e vs a t =
       one = filled o.head (parts_in g.ones);
       is = ap (λ (z : List Node). part_node (filled_in z (parts_in z)) ∷ []) is;
       expands = filled_expands o.head (parts_in g.ones);
-      fits = λ behind n. trim_says i d c behind o.head (parts_in g.ones) a.middle.bytes kind o.fits (enters b.before) r.fits front none }
+      fits = λ behind n. trim_says i d c behind o.head (parts_in g.ones) a.middle.bytes kind o.fits (enters b.before) r.fits front none;
+    }
 
 pub braces_rule : (k : Known) (i : Bool) (c : Context) (d : ℕ) (s e : State) (vs : List Node) → Sat k (Fine k i) (Says i) (body (table.braces c)) d s e vs → Says i (table.braces c) d s e vs
 unfolding holds
@@ -321,8 +323,13 @@ part_rule k i c d s e vs fine (inr (t, inl a)) =
 part_rule k i c d s e vs fine (inr (t, inr (u, inl a))) = escaped_part k i d c s e vs a.1
 part_rule k i c d s e vs fine (inr (t, inr (u, inr (v, inl a)))) =
     let o = a.1.claim in
-    record { one = o.one; is = o.is; ok = record {
-      begins = expansion_begins c o.one (clear s.bytes) o.expands (dollar_ahead (clear s.bytes) a.0);
-      runs = expansion_runs c o.one s e o.expands;
-      fits = λ behind f. o.fits behind (fronts_on c behind (clear e.bytes) f) } }
+    record {
+      one = o.one;
+      is = o.is;
+      ok = record {
+        begins = expansion_begins c o.one (clear s.bytes) o.expands (dollar_ahead (clear s.bytes) a.0);
+        runs = expansion_runs c o.one s e o.expands;
+        fits = λ behind f. o.fits behind (fronts_on c behind (clear e.bytes) f);
+      };
+    }
 part_rule k i c d s e vs fine (inr (t, inr (u, inr (v, inr a)))) = literal_part k i d c s e vs a.1

@@ -137,8 +137,24 @@ key_is k bytes text r u = rw u (ap (λ (z : Text). same_text z (key_text k)) r)
 
 pub reserved_is : (bytes text : Text) → (bare bytes).0 ≡ text → unit_starts in_word (bare bytes).1 ≡ false → (opens_compound bytes || is_other_key bytes) ≡ is_reserved_text text
 reserved_is bytes text r u =
-    rw (key_is tokens.If bytes text r u, key_is For bytes text r u, key_is While bytes text r u, key_is Until bytes text r u, key_is Case bytes text r u, key_is OpenBrace bytes text r u,
-      key_is Then bytes text r u, key_is Elif bytes text r u, key_is Else bytes text r u, key_is Fi bytes text r u, key_is In bytes text r u, key_is Do bytes text r u, key_is Done bytes text r u, key_is Esac bytes text r u, key_is CloseBrace bytes text r u, key_is Bang bytes text r u) refl
+    rw (
+      key_is tokens.If bytes text r u,
+      key_is For bytes text r u,
+      key_is While bytes text r u,
+      key_is Until bytes text r u,
+      key_is Case bytes text r u,
+      key_is OpenBrace bytes text r u,
+      key_is Then bytes text r u,
+      key_is Elif bytes text r u,
+      key_is Else bytes text r u,
+      key_is Fi bytes text r u,
+      key_is In bytes text r u,
+      key_is Do bytes text r u,
+      key_is Done bytes text r u,
+      key_is Esac bytes text r u,
+      key_is CloseBrace bytes text r u,
+      key_is Bang bytes text r u,
+    ) refl
 
 pub no_reserved_word : (bytes : Text) (w : shape.Parts) → WordFront w (gap bytes) → name_next bytes ≡ true → is_reserved_word w ≡ false
 unfolding name_next
@@ -176,7 +192,7 @@ unfolding run_step
 to_word_is {s = s} st =
     by_step (λ (m : State) (ws : List Node). m.bytes ≡ gap s.bytes)
     (then (λ (z : Text). z ≡ gap s.bytes) (λ (x : Leaf Node × State). x.1.bytes ≡ gap s.bytes) (word_place s.bytes) _
-      (chosen_by (If (λ (z : Text). z ≡ gap s.bytes)) (is_token Word s.bytes) _ _ (λ e. refl) (λ e. tt)) (λ place h. h)) st
+    (chosen_by (If (λ (z : Text). z ≡ gap s.bytes)) (is_token Word s.bytes) _ _ (λ e. refl) (λ e. tt)) (λ place h. h)) st
 
 at_gap : (s m : State) → m.bytes ≡ gap s.bytes → clear m.bytes ≡ gap s.bytes
 at_gap s m h = ap clear h ∙ clear_is (gap s.bytes) (gap_solid s.bytes).0
@@ -190,7 +206,8 @@ word_rule k i d s e vs a =
     record {
       one = parts_in a.others;
       is = ap (λ (z : List Node). word_node (parts_in z) ∷ []) is;
-      fits = (spaced_fits i d (gap s.bytes) (parts_in a.others) g.0 g.1 f r.fits, λ n. no_assign_word s.bytes (parts_in a.others) f n, λ n. no_reserved_word s.bytes (parts_in a.others) f n) }
+      fits = (spaced_fits i d (gap s.bytes) (parts_in a.others) g.0 g.1 f r.fits, λ n. no_assign_word s.bytes (parts_in a.others) f n, λ n. no_reserved_word s.bytes (parts_in a.others) f n);
+    }
 
 pub value_rule : (k : Known) (i : Bool) (d : ℕ) (s e : State) (vs : List Node) → Sat k (Fine k i) (Says i) (body table.value) d s e vs → Says i table.value d s e (act table.value vs)
 value_rule k i d s e vs a = record { one = parts_in vs; is = refl; fits = a.claim.fits }
@@ -214,6 +231,9 @@ pattern_rule k i d s e vs a =
     let is : parts_in vs ≡ part p.one (parts_in b.others) = ap parts_in (skip a.is (nothing_said table.to_word refl a.before)) ∙ (ap parts_in b.is ∙ parts_behind p.one b.ones b.others p.is) in
     let g = at_gap s a.middle (to_word_is a.before) in
     let hash : plain_begins 35 (part p.one (parts_in b.others)) ≡ false =
-      begins_hash p.one (parts_in b.others) (clear a.middle.bytes) p.ok.begins (subst (λ (z : Text). starts (λ b. b == 35) z ≡ false) (sym g) (gap_solid s.bytes).1) in
-    record { one = word_node (parts_in vs); is = refl;
-      fits = subst (λ (z : shape.Parts). patterns_fit i d (word z no_word) ≡ true) (sym is) (rw (hash, p.ok.fits (parts_in b.others) r.front, r.fits) refl) }
+    begins_hash p.one (parts_in b.others) (clear a.middle.bytes) p.ok.begins (subst (λ (z : Text). starts (λ b. b == 35) z ≡ false) (sym g) (gap_solid s.bytes).1) in
+    record {
+      one = word_node (parts_in vs);
+      is = refl;
+      fits = subst (λ (z : shape.Parts). patterns_fit i d (word z no_word) ≡ true) (sym is) (rw (hash, p.ok.fits (parts_in b.others) r.front, r.fits) refl);
+    }

@@ -1,17 +1,16 @@
 -- An expression that is written as a form of sh fits where the form stands, so deep or less deep.
-use Rattle.std.proofs.Common.{◌≡◌, ℕ, ℤ, pos, negsuc, zero, suc, ◌+◌, ◌≤◌, Bool, true, false, cond, Option, Some, None, refl, sym, ap, subst, ◌∙◌, eq-eqb}
+use Rattle.std.proofs.Common.{◌≡◌, ℕ, ℤ, pos, negsuc, suc, ◌+◌, ◌≤◌, Bool, true, false, cond, Option, Some, None, refl, sym, ap, subst, ◌∙◌, eq-eqb}
 use Rattle.std.specs.Prelude.{◌&&◌, not, ◌==◌, nat_le, nat_lt, if◌then◌else◌}
-use Rattle.std.proofs.lemmas.Bool.{le-leb, lt-ltb, ltb-true, false≢true, true≢false}
+use Rattle.std.proofs.lemmas.Bool.{le-leb, lt-ltb, ltb-true, false≢true}
 use Rattle.std.proofs.Common.{arith}
 use Rattle.span_text.specs.Names.{is_name}
 use Rattle.span_text.specs.ExprTokens.{greatest}
-use Rattle.span_text.specs.declared.expr.BinOp.{BinOp}
 use Rattle.span_text.specs.declared.expr.Expr.{Expr}
 use Rattle.span_text.specs.declared.expr.Expr.TheVariants as expr
 use Rattle.span_text.specs.declared.expr.Expr.TheOpen.{Expr-F}
 use Rattle.span_text.specs.declared.expr.Expr.TheOpen as layer
 use Rattle.span_text.specs.declared.expr.Expr.TheViews.{roll-Expr}
-use Rattle.span_text.specs.declared.expr.Expr.TheFolds.{map-Expr, fold-Expr, fold-roll-Expr, ind-Expr}
+use Rattle.span_text.specs.declared.expr.Expr.TheFolds.{map-Expr, fold-roll-Expr, ind-Expr}
 use Rattle.span_text.specs.declared.sign.Infix.{Infix}
 use Rattle.span_text.specs.declared.sign.Infix.TheVariants.{Plain, And, Or, Comma}
 use Rattle.span_text.specs.Expressions.{Form, literal, expanded, variable, member, group, prefixed, stepped, between, chosen, assigned, tree, level, left_level, Fits}
@@ -51,7 +50,8 @@ level_lift f d n k false false h s r = absurd (false≢true h)
 falls_level : (own : ℕ) (f : Inside) → Sinks f → Falls (record { is_variable = false; fits = λ w d n. if nat_le w own then f d n else (if nat_lt d limit then f (suc d) n else None) })
 falls_level own f s = record {
   down = λ w d n k e. level_down f d n k (nat_le w own) (nat_lt (suc d) limit) (nat_lt d limit) refl refl s e;
-  lift = λ w d n k l e. level_lift f d n k (nat_le w own) (nat_lt d limit) l s (subst (λ (z : Bool). cond z (f (suc d) n) (cond (nat_lt (suc d) limit) (f (suc (suc d)) n) None) ≡ Some k) (le-leb 0 own (omega arith)) e) }
+  lift = λ w d n k l e. level_lift f d n k (nat_le w own) (nat_lt d limit) l s (subst (λ (z : Bool). cond z (f (suc d) n) (cond (nat_lt (suc d) limit) (f (suc (suc d)) n) None) ≡ Some k) (le-leb 0 own (omega arith)) e);
+}
 
 bound : (o : Option ℕ) (f : ℕ → Option ℕ) (k : ℕ) → (o >>= f) ≡ Some k → (m : ℕ) × (o ≡ Some m) × (f m ≡ Some k)
 bound None f k e = absurd cc

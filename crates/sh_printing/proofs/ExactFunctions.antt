@@ -146,7 +146,10 @@ function_rule k i d s e vs a f =
     let b = a.rest in let g = b.rest in let h = g.rest in
     let n = named a.before in let c = h.rest.claim in
     let is : vs ≡ text_node n.name ∷ command_node c.one ∷ [] =
-      a.is ∙ (ap (λ (z : List Node). z ++ a.others) n.is ∙ ap (λ (z : List Node). text_node n.name ∷ z)
-      (skip b.is (nothing_said (table.op tokens.Open) refl b.before) ∙ (skip g.is (nothing_said (table.op tokens.Close) refl g.before) ∙ (skip h.is h.before.claim ∙ c.is)))) in
-    record { one = shape.command (shape.function n.name c.one) no_redirect; is = ap (λ (z : List Node). command_node (shape.command (shape.function (text_in z) (command_in z)) no_redirect) ∷ []) is;
-      fits = rw (n.fits, function_name s.bytes n.name a.middle.bytes f n.run, c.fits.0, c.fits.1) refl }
+    a.is ∙ (ap (λ (z : List Node). z ++ a.others) n.is ∙ ap (λ (z : List Node). text_node n.name ∷ z)
+    (skip b.is (nothing_said (table.op tokens.Open) refl b.before) ∙ (skip g.is (nothing_said (table.op tokens.Close) refl g.before) ∙ (skip h.is h.before.claim ∙ c.is)))) in
+    record {
+      one = shape.command (shape.function n.name c.one) no_redirect;
+      is = ap (λ (z : List Node). command_node (shape.command (shape.function (text_in z) (command_in z)) no_redirect) ∷ []) is;
+      fits = rw (n.fits, function_name s.bytes n.name a.middle.bytes f n.run, c.fits.0, c.fits.1) refl;
+    }

@@ -1,5 +1,5 @@
 -- What stands open of arithmetic expansions, while they are read.
-use Rattle.std.proofs.Common.{◌≡◌, ℕ, zero, suc, Bool, true, false, cond, List, [], ◌∷◌, ◌++◌, length, Option, Some, None, ◌⊎◌, inl, inr, refl, sym, ap, subst, ◌∙◌, append_assoc, append-nil}
+use Rattle.std.proofs.Common.{◌≡◌, ℕ, zero, suc, Bool, true, false, List, [], ◌∷◌, ◌++◌, Option, Some, None, inl, inr, refl, sym, ap, subst, ◌∙◌, append_assoc, append-nil}
 use Rattle.std.specs.Prelude.{◌||◌, ◌&&◌, not, ◌==◌, nat_lt}
 use Rattle.std.specs.List.{list_all}
 use Rattle.std.proofs.lemmas.Bool.{false≢true, true≢false}
@@ -10,7 +10,7 @@ use Rattle.span_text.specs.declared.expr.Expr.{Expr}
 use Rattle.sh_grammar.specs.Shape as shape
 use Rattle.sh_grammar.specs.Shape.{no_part, part, arith as arith_part}
 use Rattle.sh_grammar.specs.Bytes.{Text, Context, clear, gap, in_word, in_double, literal_run, unit_starts, is_escaped, is_bare_dollar}
-use Rattle.sh_grammar.specs.Tokens.{Op, End, Newline, Less, Great, DGreat, DLess, DLessDash, LessAnd, GreatAnd, token, is_token, is_key, bare, name_at, assign_at, tilde_at}
+use Rattle.sh_grammar.specs.Tokens.{Op, End, Newline, Less, Great, DGreat, DLess, DLessDash, LessAnd, GreatAnd, token, is_token, is_key, name_at, assign_at, tilde_at}
 use Rattle.sh_grammar.specs.Expansions.{◌>>=◌, Head, closed as closed_head, filling, trimming, behind_two, dollar_param, dollar_head, dollar_sum}
 use Rattle.sh_grammar.specs.Bodies.{delimiter_for, bodies_at}
 use Rattle.sh_grammar.specs.State.{State, Sum, Node, part_node, expr_node, operands_in, sum_in}
@@ -20,15 +20,15 @@ use Rattle.sh_grammar.specs.Table.{Step, op, key, line, ends, name, assign_name,
 use Rattle.sh_grammar.specs.Table as table
 use Rattle.sh_grammar.specs.Acts.{act}
 use Rattle.sh_grammar.proofs.Tools.{If, then, chosen, chosen_by}
-use Rattle.sh_printing.specs.Printable.{is_expansion, part_fits, operand_fits, operand_checks}
-use Rattle.sh_printing.proofs.BackBytes.{both, isnt, neither}
+use Rattle.sh_printing.specs.Printable.{operand_fits, operand_checks}
+use Rattle.sh_printing.proofs.BackBytes.{both}
 use Rattle.sh_printing.proofs.BackSumTokens.{put}
-use Rattle.sh_printing.proofs.BackSumCells.{text_of, spans_of, sum_of, sum_put, sum_operand}
-use Rattle.sh_printing.proofs.ExactParts.{OneExpansion, by_step}
-use Rattle.sh_printing.proofs.ExactRules.{Claim, Stepped, Both, Turns, Ruled, Sat, after}
+use Rattle.sh_printing.proofs.BackSumCells.{sum_of, sum_put, sum_operand}
+use Rattle.sh_printing.proofs.ExactParts.{by_step}
+use Rattle.sh_printing.proofs.ExactRules.{Claim, Stepped, Turns, Ruled, Sat, after}
 use Rattle.sh_printing.proofs.ExactStates.{Fine}
 use Rattle.sh_printing.proofs.ExactSteps.{nothing_said, skip, stop, enters}
-use Rattle.sh_printing.proofs.ExactClaims.{One, Anywhere, Says}
+use Rattle.sh_printing.proofs.ExactClaims.{Says}
 use Rattle.sh_printing.proofs.ExactDeeper.{rises}
 use Rattle.sh_printing.proofs.ExactSums.{cells_fit, Holds, holds_both, holds_put, holds_nodes, holds_cells}
 use Rattle.sh_printing.proofs.ExactAll.{Held}
@@ -223,9 +223,12 @@ turns_add k i d zero s e vs t cs n r h = ([], n, ap (λ (z : State). z.sums) (sy
 turns_add k i d (suc m) s e vs t cs n r h =
     let b = t.1 in
     let x = b.before.claim.1 cs n r h in
-    let y = turns_add k i d m b.middle e b.others b.rest (cs ++ x.0) x.1 r x.2 in
-    (x.0 ++ y.0, y.1, y.2 ∙ ap (λ (z : List Cell). sum_of z ∷ r) (append_assoc cs x.0 y.0),
-      subst (Holds i d y.1 d n (x.0 ++ y.0)) (sym b.is) (holds_both i d x.1 d y.1 d n x.0 y.0 b.ones b.others x.3 y.3))
+    let y = turns_add k i d m b.middle e b.others b.rest (cs ++ x.0) x.1 r x.2 in (
+      x.0 ++ y.0,
+      y.1,
+      y.2 ∙ ap (λ (z : List Cell). sum_of z ∷ r) (append_assoc cs x.0 y.0),
+      subst (Holds i d y.1 d n (x.0 ++ y.0)) (sym b.is) (holds_both i d x.1 d y.1 d n x.0 y.0 b.ones b.others x.3 y.3),
+    )
 
 one_byte : {k : Known} {F : State → Type 0} {d : ℕ} {s e : State} {vs : List Node} → Stepped k F sum_open d s e vs → e.sums ≡ with_bytes (40 ∷ []) s.sums
 unfolding run_step
@@ -293,10 +296,15 @@ sum_read k i d s e vs a =
     let x = turns_add k i (suc d) g.before.0 b.middle g.middle g.ones g.before.1 [] 0 s.sums opened in
     let c = closed_sum j.before in
     record {
-      cells = x.0; many = x.1; operands = g.ones; holds = x.3; read = c.read;
+      cells = x.0;
+      many = x.1;
+      operands = g.ones;
+      holds = x.3;
+      read = c.read;
       is = skip a.is (nothing_said open_sum refl a.before) ∙ (skip b.is (nothing_said enter refl b.before) ∙ (g.is ∙ ap (λ (z : List Node). g.ones ++ z) (stop j.is (nothing_said leave refl j.rest) ∙ c.is)));
       spelled = sym (ap innermost x.2) ∙ c.spelled;
-      sums = calm_step leave refl j.rest ∙ (c.sums ∙ ap without_innermost x.2) }
+      sums = calm_step leave refl j.rest ∙ (c.sums ∙ ap without_innermost x.2);
+    }
 
 sum_says : (k : Known) (i : Bool) (d : ℕ) (s e : State) (vs : List Node) → Sat k (Fine k i) (Whole i) (body sum) d s e vs → Says i sum d s e (act sum vs)
 sum_says k i d s e vs a =

@@ -264,7 +264,7 @@ unfolding run_step
 line_counted k s c =
     chosen CountedIn (is_token Newline s.bytes) _ _
     (then (Bodies false s.owed) (λ (x : Leaf Node × State). Counted x.1) (bodies_at s.owed (token s.bytes).1) _ (bodies_fit false s.owed (token s.bytes).1 (λ e. absurd (false≢true e)))
-      (λ x h. let a = length_both s.found x.0 in let m = h.many in let c2 = c in omega (arith, a, m, c2))) tt
+    (λ x h. let a = length_both s.found x.0 in let m = h.many in let c2 = c in omega (arith, a, m, c2))) tt
 
 node_counted : (m : State) (o : Option Node) → Counted m → CountedIn (o >>= λ x. Some (said x, m))
 node_counted m None h = tt
@@ -275,7 +275,7 @@ after_counted k s strips t c =
     then (λ (z : Text). Unit {0}) (λ (x : Leaf Node × State). Counted x.1) (word_place t) _ (any_of (word_place t))
     (λ place i. then (λ (z : (Text × Bool) × Text). Unit {0}) (λ (x : Leaf Node × State). Counted x.1) (delimiter_for strips place) _ (any_of (delimiter_for strips place))
     (λ d j. node_counted (record s { bytes = d.1; owed = s.owed ++ record { delimiter = d.0.0; literal = d.0.1; strips = strips } ∷ []; named = suc s.named }) (here_node k s d.0.1)
-      (let a = length_both s.owed (record { delimiter = d.0.0; literal = d.0.1; strips = strips } ∷ []) in let c2 = c in omega (arith, a, c2))))
+    (let a = length_both s.owed (record { delimiter = d.0.0; literal = d.0.1; strips = strips } ∷ []) in let c2 = c in omega (arith, a, c2))))
 
 here_counted_at : (k : Known) (s : State) (x : Op × Text) → Counted s → CountedIn (here_read k s x)
 here_counted_at k s (DLess, rest) c = after_counted k s false rest c
@@ -308,4 +308,5 @@ step_counted k p s c = steady_counts s (run_step k p s) c (steady k p s refl)
 pub forth : (k : Known) (i : Bool) (p : Step) (s e : State) (x : Leaf Node) → run_step k p s ≡ Some (x, e) → Forth i s → Forth i e
 forth k i p s e x h f = record {
   clean = if_some (λ (y : Leaf Node × State). Clean i y.1.bytes) (run_step k p s) (x, e) h (step_leaves (Clean i) (clean_tails i) k p s f.clean);
-  counted = if_some (λ (y : Leaf Node × State). Counted y.1) (run_step k p s) (x, e) h (step_counted k p s f.counted) }
+  counted = if_some (λ (y : Leaf Node × State). Counted y.1) (run_step k p s) (x, e) h (step_counted k p s f.counted);
+}

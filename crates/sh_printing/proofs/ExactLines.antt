@@ -109,7 +109,8 @@ newline_more i q p b bs x z e h =
       bytes = rw (z, h.bytes) refl;
       lines = lines_any p b x.0 (newline_lines b x.0 e h.lines);
       next = same_any p b bs x.0;
-      kept = λ f u. kept_more q b bs x.0 (λ y. absurd (true≢false (sym y ∙ n))) (λ v. newline_kept q b bs x.0 n (h.kept f) v) u }
+      kept = λ f u. kept_more q b bs x.0 (λ y. absurd (true≢false (sym y ∙ n))) (λ v. newline_kept q b bs x.0 n (h.kept f) v) u;
+    }
 
 other_more : (i q : Bool) (p : Place) (b : ℕ) (bs : Text) (x : Text × Text) → (b == 0) ≡ false → LiteralIn i (quoted_next q b) within bs x → LiteralIn i q p (b ∷ bs) (b ∷ x.0, x.1)
 other_more i q p b bs x z h =
@@ -117,7 +118,8 @@ other_more i q p b bs x z h =
       bytes = rw (z, h.bytes) refl;
       lines = lines_any p b x.0 (longer_lines b x.0 h.lines);
       next = same_any p b bs x.0;
-      kept = λ f u. kept_more q b bs x.0 (λ y. h.next) (h.kept f) u }
+      kept = λ f u. kept_more q b bs x.0 (λ y. h.next) (h.kept f) u;
+    }
 
 -- so much is known of every place and quotation in the rest
 abbrev Further : Bool → Owed → Text → Type 0
@@ -132,7 +134,7 @@ literal_byte i q o p b bs z f =
     chosen_by (λ (y : Place). If (LiteralIn i q p (b ∷ bs)) (with_byte b (body_from o y bs))) (b == 10) line_start (cond (b == 92 && not true) kept_byte within)
     (λ e. bound (LiteralIn i false line_start bs) (LiteralIn i q p (b ∷ bs)) b (body_from o line_start bs) f.0 (λ x h. newline_more i q p b bs x z e h))
     (λ e. subst (λ (y : Bool). If (LiteralIn i q p (b ∷ bs)) (with_byte b (body_from o (cond y kept_byte within) bs))) (sym (no_and (b == 92)))
-      (bound (LiteralIn i (quoted_next q b) within bs) (LiteralIn i q p (b ∷ bs)) b (body_from o within bs) (f.1 (quoted_next q b)) (λ x h. other_more i q p b bs x z h)))
+    (bound (LiteralIn i (quoted_next q b) within bs) (LiteralIn i q p (b ∷ bs)) b (body_from o within bs) (f.1 (quoted_next q b)) (λ x h. other_more i q p b bs x z h)))
 
 -- a tab that is dropped
 dropped : (i : Bool) (b : ℕ) (bs : Text) (x : Text × Text) → (b == 9) ≡ true → LiteralIn i false line_start bs x → LiteralIn i false line_start (b ∷ bs) x
@@ -169,9 +171,10 @@ unfolding body_from
 literal_from i o l [] = (tt, λ q. tt)
 literal_from i o l (b ∷ bs) =
     let f = literal_from i o l bs in
-    let P = LiteralIn i false line_start (b ∷ bs) in
-    (ended i (b ∷ bs) (last_line o line_start (b ∷ bs)) _ (literal_start i o b bs o.literal l f),
-     λ q. literal_within i o q b bs o.literal l f)
+    let P = LiteralIn i false line_start (b ∷ bs) in (
+      ended i (b ∷ bs) (last_line o line_start (b ∷ bs)) _ (literal_start i o b bs o.literal l f),
+      λ q. literal_within i o q b bs o.literal l f,
+    )
 
 -- ---- a body that is expanded
 
@@ -223,12 +226,12 @@ expanded_byte : (o : Owed) (p : Place) (b : ℕ) (bs : Text) → reads_byte p �
 expanded_byte o p b bs r j f =
     chosen_by (λ (y : Place). If (ExpandedIn p (b ∷ bs)) (with_byte b (body_from o y bs))) (b == 10) line_start (cond (b == 92 && not false) kept_byte within)
     (λ e. bound (ExpandedIn line_start bs) (ExpandedIn p (b ∷ bs)) b (body_from o line_start bs) (f line_start)
-      (λ x h. byte_facts p b bs x.0 r (newline_lines b x.0 e h.lines) (unjoined_more b x.0 (apart (λ y. y == 10) b 92 e refl) h.kept)))
+    (λ x h. byte_facts p b bs x.0 r (newline_lines b x.0 e h.lines) (unjoined_more b x.0 (apart (λ y. y == 10) b 92 e refl) h.kept)))
     (λ e. chosen_by (λ (y : Place). If (ExpandedIn p (b ∷ bs)) (with_byte b (body_from o y bs))) (b == 92 && not false) kept_byte within
-      (λ q. bound (ExpandedIn kept_byte bs) (ExpandedIn p (b ∷ bs)) b (body_from o kept_byte bs) (f kept_byte)
-        (λ x h. byte_facts p b bs x.0 r (longer_lines b x.0 h.lines) (unjoined_quote b bs x.0 (both (b == 92) (not false) q).0 j h.next h.kept)))
-      (λ q. bound (ExpandedIn within bs) (ExpandedIn p (b ∷ bs)) b (body_from o within bs) (f within)
-        (λ x h. byte_facts p b bs x.0 r (longer_lines b x.0 h.lines) (unjoined_more b x.0 (and_left (b == 92) q) h.kept))))
+    (λ q. bound (ExpandedIn kept_byte bs) (ExpandedIn p (b ∷ bs)) b (body_from o kept_byte bs) (f kept_byte)
+    (λ x h. byte_facts p b bs x.0 r (longer_lines b x.0 h.lines) (unjoined_quote b bs x.0 (both (b == 92) (not false) q).0 j h.next h.kept)))
+    (λ q. bound (ExpandedIn within bs) (ExpandedIn p (b ∷ bs)) b (body_from o within bs) (f within)
+    (λ x h. byte_facts p b bs x.0 r (longer_lines b x.0 h.lines) (unjoined_more b x.0 (and_left (b == 92) q) h.kept))))
 
 -- what is known of a join's end, and of a tab that is dropped, is known before it
 start_over : (t u : Text) (o : Option (Text × Text)) → If (ExpandedIn line_start t) o → If (ExpandedIn line_start u) o
@@ -336,7 +339,7 @@ bodies_fit i [] t u = record { owes = λ later. tt; many = refl }
 bodies_fit i (o ∷ os) t u =
     then (λ (x : Text × Text). BodyFits i o.literal x.0 × (i ≡ true → is_unjoined false x.1 ≡ true)) (Bodies i (o ∷ os)) (body_at o t) _ (body_and_rest i o t u)
     (λ x h. then (Bodies i os) (Bodies i (o ∷ os)) (bodies_at os x.1) _ (bodies_fit i os x.1 h.1)
-      (λ y g. record { owes = λ later. (h.0, g.owes later); many = ap suc g.many }))
+    (λ y g. record { owes = λ later. (h.0, g.owes later); many = ap suc g.many }))
 
 pub bodies_end : (P : Text → Type 0) → Tails P → (os : List Owed) (t : Text) → P t → If (Rest {A = List Text} P) (bodies_at os t)
 unfolding bodies_at

@@ -151,9 +151,12 @@ pipeline_rule k i d s e vs a =
     let c = b.before.claim in
     let t = turns_all (Fine k i) (table.next tokens.Pipe) (Ruled (Fine k i) (Says i table.stage) d) (is_stage i d) (λ s e ws r. r.claim) b.rest.0 b.middle e b.others b.rest.1 in
     let is : stages_in vs ≡ stage c.one (stages_in b.others) =
-      ap stages_in a.is ∙ (bang_stages k i d s a.middle a.ones a.others a.before ∙ (ap stages_in b.is ∙ ap (λ (z : List Node). stages_in (z ++ b.others)) c.is)) in
-    record { one = shape.pipeline (has_bang vs) (stages_in vs); is = refl;
-      fits = subst (λ (z : shape.Stages). (has_stage z && stages_fit i d z) ≡ true) (sym is) (rw (c.fits, stages_of i d b.others t) refl) }
+    ap stages_in a.is ∙ (bang_stages k i d s a.middle a.ones a.others a.before ∙ (ap stages_in b.is ∙ ap (λ (z : List Node). stages_in (z ++ b.others)) c.is)) in
+    record {
+      one = shape.pipeline (has_bang vs) (stages_in vs);
+      is = refl;
+      fits = subst (λ (z : shape.Stages). (has_stage z && stages_fit i d z) ≡ true) (sym is) (rw (c.fits, stages_of i d b.others t) refl);
+    }
 
 pub bang_rule : (k : Known) (i : Bool) (d : ℕ) (s e : State) (vs : List Node) → Sat k (Fine k i) (Says i) (body table.bang) d s e vs → Says i table.bang d s e (act table.bang vs)
 bang_rule k i d s e vs a = refl

@@ -246,16 +246,16 @@ pub hash_fits : (bs : Text) → If HeadIn (hash_head bs)
 hash_fits bs =
     chosen_by (If HeadIn) (is_close bs || is_dash bs) _ _
     (λ e. chosen_by (If HeadIn) (is_dash bs) _ _ (λ f. tt)
-      (λ f. operator_fits count bs (record { fits = refl; no_dash = λ c. f; no_hash = λ c. no_hash_at bs (one_of (is_close bs) (is_dash bs) e f) })))
+    (λ f. operator_fits count bs (record { fits = refl; no_dash = λ c. f; no_hash = λ c. no_hash_at bs (one_of (is_close bs) (is_dash bs) e f) })))
     (λ e. or_fits (length_head (long_param_at bs)) (operator_at count bs) (length_fits bs (long_param_at bs) (long_param bs))
-      (λ n. operator_fits count bs (record { fits = refl; no_dash = λ c. (neither (is_close bs) (is_dash bs) e).1; no_hash = λ c. no_length_in bs n })))
+    (λ n. operator_fits count bs (record { fits = refl; no_dash = λ c. (neither (is_close bs) (is_dash bs) e).1; no_hash = λ c. no_length_in bs n })))
 
 pub head_fits : (bytes : Text) → If HeadIn (head_at bytes)
 unfolding head_at
 head_fits bytes =
     chosen_by (If HeadIn) (is_hash bytes) _ _ (λ e. hash_fits (clear (tail bytes)))
     (λ e. then (LongIn bytes) HeadIn (long_param_at bytes) _ (long_param bytes)
-      (λ x h. operator_fits x.0 (clear x.1) (record { fits = h.fits; no_dash = λ c. absurd (false≢true (sym (h.counts e) ∙ c)); no_hash = λ c. absurd (false≢true (sym (h.counts e) ∙ c)) })))
+    (λ x h. operator_fits x.0 (clear x.1) (record { fits = h.fits; no_dash = λ c. absurd (false≢true (sym (h.counts e) ∙ c)); no_hash = λ c. absurd (false≢true (sym (h.counts e) ∙ c)) })))
 
 any_rest : (o : Option Text) → If (λ (z : Text). Unit {0}) o
 any_rest None = tt

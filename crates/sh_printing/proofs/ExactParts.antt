@@ -185,7 +185,7 @@ quoted_is (b ∷ bs) =
     chosen_by (If (λ (x : Text × Text). Quoted (b ∷ bs) x.0 x.1)) (b == 39) _ _ (λ e. record { each = refl; is = ap (λ (z : ℕ). z ∷ bs) (eqb-true b 39 e) })
     (λ e. chosen_by (If (λ (x : Text × Text). Quoted (b ∷ bs) x.0 x.1)) (b == 0) _ _ (λ f. tt)
     (λ f. then (λ (x : Text × Text). Quoted bs x.0 x.1) (λ (x : Text × Text). Quoted (b ∷ bs) x.0 x.1) (quoted_run bs) _ (quoted_is bs)
-      (λ x h. record { each = rw (e, f) h.each; is = ap (λ (z : Text). b ∷ z) h.is })))
+    (λ x h. record { each = rw (e, f) h.each; is = ap (λ (z : Text). b ∷ z) h.is })))
 
 -- what is quoted has no joins where there are none
 pub quoted_kept : (i : Bool) (bytes text rest : Text) → Clean i bytes → clear bytes ≡ 39 ∷ (text ++ 39 ∷ rest) → keeps i text ≡ true
@@ -202,11 +202,16 @@ unfolding run_step
 exact_part k i d c s e vs single fine st =
     by_step (OnePart i d c s)
     (then (λ (z : Text). clear s.bytes ≡ 39 ∷ z) (λ (x : Leaf Node × State). OnePart i d c s x.1 (leaf_kids x.0)) (behind 39 (clear s.bytes)) _ (behind_is 39 (clear s.bytes))
-      (λ rest h. then (λ (x : Text × Text). Quoted rest x.0 x.1) (λ (x : Leaf Node × State). OnePart i d c s x.1 (leaf_kids x.0)) (quoted_run rest) _ (quoted_is rest)
-        (λ x q. record { one = exact x.0; is = refl; ok = record {
-          begins = subst (λ (z : Text). starts (λ y. y == 39 || y == 92) z ≡ true) (sym h) refl;
-          runs = tt;
-          fits = λ behind f. rw single (or_second (is_quote x.0) (list_all is_exact_byte x.0 && keeps i x.0) (rw (q.each, quoted_kept i s.bytes x.0 x.1 fine.0.clean (h ∙ ap (λ (z : Text). 39 ∷ z) q.is)) refl)) } }))) st
+    (λ rest h. then (λ (x : Text × Text). Quoted rest x.0 x.1) (λ (x : Leaf Node × State). OnePart i d c s x.1 (leaf_kids x.0)) (quoted_run rest) _ (quoted_is rest)
+    (λ x q. record {
+      one = exact x.0;
+      is = refl;
+      ok = record {
+        begins = subst (λ (z : Text). starts (λ y. y == 39 || y == 92) z ≡ true) (sym h) refl;
+        runs = tt;
+        fits = λ behind f. rw single (or_second (is_quote x.0) (list_all is_exact_byte x.0 && keeps i x.0) (rw (q.each, quoted_kept i s.bytes x.0 x.1 fine.0.clean (h ∙ ap (λ (z : Text). 39 ∷ z) q.is)) refl));
+      };
+    }))) st
 
 not_nul : (c : Context) (b : ℕ) → has_single c ≡ true → is_escaped c b ≡ true → (b == 0) ≡ false
 unfolding has_single is_escaped
@@ -240,10 +245,15 @@ escaped_gives i d c s [] h = tt
 escaped_gives i d c s (b ∷ bs) h =
     let j : is_join 92 (b ∷ bs) ≡ false = subst (λ (z : Text). joins z ≡ false) h (clear_free s.bytes) in
     chosen_by (If (λ (x : Leaf Node × State). OnePart i d c s x.1 (leaf_kids x.0))) (is_escaped c b) _ _
-    (λ e. record { one = exact (b ∷ []); is = refl; ok = record {
-      begins = subst (λ (z : Text). starts (λ y. y == 39 || y == 92) z ≡ true) (sym h) refl;
-      runs = tt;
-      fits = λ behind f. escaped_fits i c b (has_single c) refl e j } })
+    (λ e. record {
+      one = exact (b ∷ []);
+      is = refl;
+      ok = record {
+        begins = subst (λ (z : Text). starts (λ y. y == 39 || y == 92) z ≡ true) (sym h) refl;
+        runs = tt;
+        fits = λ behind f. escaped_fits i c b (has_single c) refl e j;
+      };
+    })
     (λ e. tt)
 
 pub escaped_part : (k : Known) (i : Bool) (d : ℕ) (c : Context) (s e : State) (vs : List Node) → Stepped k (Fine k i) (table.escaped c) d s e vs → OnePart i d c s e vs

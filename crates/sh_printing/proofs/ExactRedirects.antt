@@ -264,8 +264,8 @@ after_given : (k : Known) (i : Bool) (d : ℕ) (s : State) (strips : Bool) (t : 
 after_given k i d s strips t x e f =
     then (λ (z : Text). Unit {0}) (λ (y : Leaf Node × State). Here k i d y.1 (leaf_kids y.0)) (word_place t) _ (any_place (word_place t))
     (λ place h. then (λ (z : (Text × Bool) × Text). Unit {0}) (λ (y : Leaf Node × State). Here k i d y.1 (leaf_kids y.0)) (delimiter_for strips place) _ (any_delimiter (delimiter_for strips place))
-      (λ l g. named_node k i d s (record s { bytes = l.1; owed = s.owed ++ record { delimiter = l.0.0; literal = l.0.1; strips = strips } ∷ []; named = suc s.named })
-        (record { delimiter = l.0.0; literal = l.0.1; strips = strips }) (here_node k s l.0.1) (record { owed = refl; found = refl }) f (λ b. node_given k i s d l.0.1 x e b)))
+    (λ l g. named_node k i d s (record s { bytes = l.1; owed = s.owed ++ record { delimiter = l.0.0; literal = l.0.1; strips = strips } ∷ []; named = suc s.named })
+    (record { delimiter = l.0.0; literal = l.0.1; strips = strips }) (here_node k s l.0.1) (record { owed = refl; found = refl }) f (λ b. node_given k i s d l.0.1 x e b)))
 
 here_given : (k : Known) (i : Bool) (d : ℕ) (s : State) (y : Op × Text) → Expands k → s.depth ≡ d → Forth i s → If (λ (y : Leaf Node × State). Here k i d y.1 (leaf_kids y.0)) (here_read k s y)
 here_given k i d s (DLess, rest) x e f = after_given k i d s false rest x e f

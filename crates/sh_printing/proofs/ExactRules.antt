@@ -193,10 +193,14 @@ sat_at k F B Q ok deep even closed (both t u) (seq g h) d s e v i f b a =
     let fm = forth_at k F B ok t g s a.0 a.1 f in
     let bm = back_at k F B ok u h a.0 e a.2 fm b in
     record {
-      middle = a.0; fine = (fm, bm); ones = kids (knowing k) t; others = kids (knowing k) u;
+      middle = a.0;
+      fine = (fm, bm);
+      ones = kids (knowing k) t;
+      others = kids (knowing k) u;
       before = sat_at k F B Q ok deep even closed t g d s a.0 x.0 i f bm a.1;
       rest = sat_at k F B Q ok deep even closed u h (after g d) a.0 e x.1 (depth_at k deep even t g s a.0 x.0 a.1 ∙ ap (after g) i) fm b a.2;
-      is = refl }
+      is = refl;
+    }
 sat_at k F B Q ok deep even closed (first t) (choose p g h) d s e v i f b a =
     let x = bytes.both (is_flat g) (is_flat h) v in
     inl (a.0, sat_at k F B Q ok deep even closed t g d s e (flat_even g x.0) i f b a.1)
@@ -208,18 +212,30 @@ sat_at k F B Q ok deep even closed (more t u) (star p g) d s e v i f b a =
     let fm = forth_at k F B ok t g s m a.1.1 f in
     let bm = back_at k F B ok u (star p g) m e a.1.2 fm b in
     let dm = depth_at k deep even t g s m (flat_even g v) a.1.1 ∙ (flat_after g s.depth v ∙ i) in
-    let j = sat_at k F B Q ok deep even closed u (star p g) d m e v dm fm b a.1.2 in
-    (suc j.0, (a.0, record {
-      middle = m; fine = (fm, bm); ones = kids (knowing k) t; others = kids (knowing k) u;
-      before = sat_at k F B Q ok deep even closed t g d s m (flat_even g v) i f bm a.1.1;
-      rest = j.1;
-      is = refl }))
+    let j = sat_at k F B Q ok deep even closed u (star p g) d m e v dm fm b a.1.2 in (
+      suc j.0,
+      (
+        a.0,
+        record {
+          middle = m;
+          fine = (fm, bm);
+          ones = kids (knowing k) t;
+          others = kids (knowing k) u;
+          before = sat_at k F B Q ok deep even closed t g d s m (flat_even g v) i f bm a.1.1;
+          rest = j.1;
+          is = refl;
+        },
+      ),
+    )
 sat_at k F B Q ok deep even closed (node q t) (rule r) d s e v i f b a =
     let bs = back_at k F B ok t (body r) s e a.1 f b in
     let fe = forth_at k F B ok t (body r) s e a.1 f in
     let j = sat_at k F B Q ok deep even closed t (body r) d s e (even r).0 i f b a.1 in
     record {
-      depth = i; depth_behind = depth_at k deep even t (body r) s e (even r).0 a.1 ∙ ((even r).1 s.depth ∙ i);
-      fine = (f, bs); fine_behind = (fe, b);
-      claim = subst (λ (z : Rule). Q r d s e (act z (kids (knowing k) t))) (sym a.0) (closed r d s e (kids (knowing k) t) i (f, bs) (fe, b) j) }
+      depth = i;
+      depth_behind = depth_at k deep even t (body r) s e (even r).0 a.1 ∙ ((even r).1 s.depth ∙ i);
+      fine = (f, bs);
+      fine_behind = (fe, b);
+      claim = subst (λ (z : Rule). Q r d s e (act z (kids (knowing k) t))) (sym a.0) (closed r d s e (kids (knowing k) t) i (f, bs) (fe, b) j);
+    }
 sat_at k F B Q ok deep even closed t g d s e v i f b h = absurd h

@@ -51,7 +51,7 @@ unfolding run_step
 line_owed k s e x h =
     if_some (λ (y : Leaf Node × State). y.1.owed ≡ []) (run_step k line s) (x, e) h
     (chosen_by (If (λ (y : Leaf Node × State). y.1.owed ≡ [])) (is_token Newline s.bytes) _ _
-      (λ t. then (λ (y : List Text × Text). Unit {0}) (λ (y : Leaf Node × State). y.1.owed ≡ []) (bodies_at s.owed (token s.bytes).1) _ (any_bodies (bodies_at s.owed (token s.bytes).1)) (λ y u. refl)) (λ t. tt))
+    (λ t. then (λ (y : List Text × Text). Unit {0}) (λ (y : Leaf Node × State). y.1.owed ≡ []) (bodies_at s.owed (token s.bytes).1) _ (any_bodies (bodies_at s.owed (token s.bytes).1)) (λ y u. refl)) (λ t. tt))
 
 body_owed : (k : Known) (t : Tree Rule Node) (s e : State) → At (knowing k) t (rule body_parts) s e → e.owed ≡ []
 body_owed k (node q (both u (leaf x))) s e a = ends_owed k a.1.0 e x a.1.2
@@ -127,8 +127,8 @@ expand_fits m n d text u l h =
     then (λ (x : List Node × State). vals (sh n []) (rule body_parts) (start_at d text) ≡ Some x) (PartsFit d) (vals (sh n []) (rule body_parts) (start_at d text)) _
     (if_each (λ x. vals (sh n []) (rule body_parts) (start_at d text) ≡ Some x) (vals (sh n []) (rule body_parts) (start_at d text)) (λ x e. e))
     (λ x p. then (λ (y : List Node × State). vals (sh n x.1.found) (rule body_parts) (start_at d text) ≡ Some y) (PartsFit d) (vals (sh n x.1.found) (rule body_parts) (start_at d text)) _
-      (if_each (λ y. vals (sh n x.1.found) (rule body_parts) (start_at d text) ≡ Some y) (vals (sh n x.1.found) (rule body_parts) (start_at d text)) (λ y e. e))
-      (λ y q. second_says m n d text x y u l h p q))
+    (if_each (λ y. vals (sh n x.1.found) (rule body_parts) (start_at d text) ≡ Some y) (vals (sh n x.1.found) (rule body_parts) (start_at d text)) (λ y e. e))
+    (λ y q. second_says m n d text x y u l h p q))
 
 expands_at : (m : Helds) (n : ℕ) (bodies : List Text) → Expands (known_in n bodies)
 expands_at m zero bodies d text u l = tt

@@ -88,9 +88,10 @@ suffix_item_rule k i d s e vs (inl a) =
     let o = a.1.claim in
     (record { one = o.one; is = o.is; fits = redirect_is_suffix i d o.one o.fits }, λ f ws. absurd (true≢false (sym a.0 ∙ (neither (redirect_next s.bytes) (assign_next s.bytes) f).0)))
 suffix_item_rule k i d s e vs (inr a) =
-    let o = a.1.claim in
-    (record { one = word_node o.one; is = o.is; fits = o.fits.0 },
-      λ f ws. subst (λ (z : List Node). name_fits true (words_in (z ++ ws)) ≡ true) (sym o.is) (rw (o.fits.1 (neither (redirect_next s.bytes) (assign_next s.bytes) f).1) refl))
+    let o = a.1.claim in (
+      record { one = word_node o.one; is = o.is; fits = o.fits.0 },
+      λ f ws. subst (λ (z : List Node). name_fits true (words_in (z ++ ws)) ≡ true) (sym o.is) (rw (o.fits.1 (neither (redirect_next s.bytes) (assign_next s.bytes) f).1) refl),
+    )
 
 suffix_turns : (k : Known) (i : Bool) (d n : ℕ) (s e : State) (vs : List Node) → Turns (Fine k i) table.suffix_begins (Ruled (Fine k i) (Says i table.suffix_item) d) n s e vs →
     (redirect_next s.bytes || assign_next s.bytes) ≡ false → name_fits true (words_in vs) ≡ true
@@ -102,7 +103,8 @@ pub suffix_rule : (k : Known) (i : Bool) (d : ℕ) (s e : State) (vs : List Node
 suffix_rule k i d s e vs a =
     record {
       each = turns_all (Fine k i) table.suffix_begins (Ruled (Fine k i) (Says i table.suffix_item) d) (is_suffix i d) (λ s e ws r. node_each (is_suffix i d) ws r.claim.0) a.0 s e vs a.1;
-      first = suffix_turns k i d a.0 s e vs a.1 }
+      first = suffix_turns k i d a.0 s e vs a.1;
+    }
 
 -- ---- all of a command
 

@@ -1,41 +1,26 @@
 -- Arithmetic expansions that were read fit.
-use Rattle.std.proofs.Common.{◌≡◌, ℕ, zero, suc, ◌+◌, Bool, true, false, cond, List, [], ◌∷◌, ◌++◌, length, Option, Some, None, ◌⊎◌, inl, inr, refl, sym, ap, subst, ◌∙◌, append_assoc, append-nil, eq-eqb, arith}
-use Rattle.std.specs.Prelude.{◌||◌, ◌&&◌, not, ◌==◌, nat_lt}
+use Rattle.std.proofs.Common.{◌≡◌, ℕ, zero, suc, Bool, true, false, cond, List, [], ◌∷◌, ◌++◌, length, Option, Some, None, inr, refl, sym, ap, subst, ◌∙◌, append_assoc, append-nil, eq-eqb, arith}
+use Rattle.std.specs.Prelude.{◌||◌, not, ◌==◌}
 use Rattle.std.specs.List.{list_all}
-use Rattle.std.proofs.lemmas.Bool.{false≢true, true≢false}
-use Rattle.text_grammar.specs.Grammar.{Leaf, said}
-use Rattle.text_grammar.specs.Values.{leaf_kids}
-use Rattle.span_text.specs.ExprTokens.{Cell, byte, expansion, cells_of, without_joins, Token, gap, tokens}
+use Rattle.span_text.specs.ExprTokens.{Cell, byte, expansion, without_joins, Token, gap, tokens}
 use Rattle.span_text.specs.declared.expr.Expr.{Expr}
-use Rattle.span_text.specs.Expressions.{tree, written}
+use Rattle.span_text.specs.Expressions.{tree}
 use Rattle.arith64.specs.Parsing.{parsed}
-use Rattle.arith64.proofs.Sound.{IsForm, sound}
+use Rattle.arith64.proofs.Sound.{sound}
 use Rattle.sh_grammar.specs.Shape as shape
 use Rattle.sh_grammar.specs.Shape.{no_part, part, no_word, word, arith as arith_part}
-use Rattle.sh_grammar.specs.Bytes.{Text, in_double, is_bare_dollar}
-use Rattle.sh_grammar.specs.Expansions.{◌>>=◌, behind_two, dollar_sum}
-use Rattle.sh_grammar.specs.State.{State, Sum, Node, part_node, expr_node, operands_in, sum_in}
-use Rattle.sh_grammar.specs.Sums.{is_sh_expr, expression, is_sum_byte, sum_run, with_bytes, with_operand, no_sum, innermost, without_innermost}
-use Rattle.sh_grammar.specs.Steps.{Known, limit, run_step, behind, bytes_read}
-use Rattle.sh_grammar.specs.Table.{Step, Test, Rule, body}
-use Rattle.sh_grammar.specs.Table as table
-use Rattle.sh_grammar.specs.Acts.{act}
-use Rattle.sh_grammar.proofs.Tools.{If, then, chosen, chosen_by}
-use Rattle.sh_printing.specs.Spellable.{placed, is_number, nth_check, sum_fits}
-use Rattle.sh_printing.specs.Printing.{continued}
-use Rattle.sh_printing.specs.Printable.{is_expansion, has_part, part_fits, operand_fits, operand_checks}
+use Rattle.sh_grammar.specs.Bytes.{Text}
+use Rattle.sh_grammar.specs.Expansions.{◌>>=◌}
+use Rattle.sh_grammar.specs.State.{Node, part_node, expr_node, operands_in, sum_in}
+use Rattle.sh_grammar.specs.Sums.{is_sh_expr, expression}
+use Rattle.sh_printing.specs.Spellable.{placed, nth_check, sum_fits}
+use Rattle.sh_printing.specs.Printable.{operand_fits, operand_checks}
 use Rattle.sh_printing.proofs.BackBytes.{both, isnt, neither}
 use Rattle.sh_printing.proofs.BackSumTokens.{put}
-use Rattle.sh_printing.proofs.BackSumCells.{Numbered, cells_back, text_of, spans_of, sum_of, sum_put, sum_operand}
-use Rattle.sh_printing.proofs.ExactParts.{OneExpansion, by_step}
-use Rattle.sh_printing.proofs.ExactRules.{Claim, Stepped, Both, Turns, Ruled, Sat}
-use Rattle.sh_printing.proofs.ExactStates.{Fine}
-use Rattle.sh_printing.proofs.ExactSteps.{nothing_said, skip, stop, enters}
-use Rattle.sh_printing.proofs.ExactClaims.{One, Anywhere, Says}
+use Rattle.sh_printing.proofs.BackSumCells.{Numbered, cells_back, sum_of}
 use Rattle.sh_printing.proofs.ExactForms.{Rises, form_fits}
 use Rattle.sh_printing.proofs.ExactTokens.{Flow, form_good}
 use Rattle.sh_printing.proofs.ExactCells.{ByteTakes, Cells, cells_flow}
-use Rattle.sh_printing.proofs.ExactDeeper.{rises}
 
 -- ---- the expression of cells
 

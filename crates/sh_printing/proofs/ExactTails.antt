@@ -107,7 +107,7 @@ word_ends : (P : Text → Type 0) → Tails P → (t : Text) → P t → P (word
 word_ends P k t h =
     chosen (Rest {A = Op} P) (starts is_digit t) (digits_word t (digit_run t)) (Word, t)
     (chosen (Rest {A = Op} P) (starts is_angle (digit_run t).1) (cond (length (digit_run t).0 == 1) (Io, (digit_run t).1) (Other, t)) (Word, t)
-      (chosen (Rest {A = Op} P) (length (digit_run t).0 == 1) (Io, (digit_run t).1) (Other, t) (digit_ends P k t h) h) h) h
+    (chosen (Rest {A = Op} P) (length (digit_run t).0 == 1) (Io, (digit_run t).1) (Other, t) (digit_ends P k t h) h) h) h
 
 front_ends : (P : Text → Type 0) → Tails P → (t : Text) → P t → P (front t).1
 unfolding front

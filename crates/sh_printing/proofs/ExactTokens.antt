@@ -1,11 +1,9 @@
 -- The form of an arithmetic expansion's tokens is one of sh, with its operands in their order and at their depths.
-use Rattle.std.proofs.Common.{◌≡◌, ℕ, zero, suc, ◌+◌, Bool, true, false, cond, List, [], ◌∷◌, ◌++◌, Option, Some, None, ◌⊎◌, inl, inr, refl, sym, ap, subst, ◌∙◌, append_assoc, append-nil, arith}
-use Rattle.std.specs.Prelude.{◌||◌, ◌&&◌, not, ◌==◌, nat_le, nat_lt}
-use Rattle.std.specs.List.{list_all}
-use Rattle.std.proofs.lemmas.Bool.{false≢true, true≢false}
-use Rattle.span_text.specs.Names.{is_name, continues_name}
-use Rattle.span_text.specs.Constant.{number_of, radix_of, digits_of, unsigned_constant}
-use Rattle.span_text.specs.ExprTokens.{Cell, byte, expansion, is_byte, without_joins, Token, number, name, indexed, operand, sign, sign_of, longer, Begun, gap, word, operator, whole, operator_if, is_gap, begun, grown, greatest, number_if, finished, ◌then◌, if_begun, tokens}
+use Rattle.std.proofs.Common.{◌≡◌, ℕ, suc, ◌+◌, Bool, true, false, List, [], ◌∷◌, refl, sym, ap, subst, ◌∙◌, arith}
+use Rattle.std.specs.Prelude.{◌&&◌, nat_le, nat_lt}
+use Rattle.std.proofs.lemmas.Bool.{false≢true}
+use Rattle.span_text.specs.Names.{is_name}
+use Rattle.span_text.specs.ExprTokens.{Token, number, name, indexed, operand, sign, greatest}
 use Rattle.span_text.specs.declared.expr.UnOp.{UnOp}
 use Rattle.span_text.specs.declared.expr.UnOp.TheVariants as unary
 use Rattle.span_text.specs.declared.expr.BinOp.{BinOp}
@@ -17,9 +15,8 @@ use Rattle.span_text.specs.declared.expr.Expr.TheFolds.{fold-roll-Expr}
 use Rattle.span_text.specs.declared.sign.Infix.{Infix}
 use Rattle.span_text.specs.declared.sign.Infix.TheVariants as infixes
 use Rattle.span_text.specs.declared.sign.Sign.{Sign}
-use Rattle.span_text.specs.declared.sign.Sign.TheVariants.{Between, Assign, Not, Complement, Increment, Decrement, Question, Colon, Open, Close, EndIndex}
+use Rattle.span_text.specs.declared.sign.Sign.TheVariants.{Between, Assign, Question, Colon, Open, Close}
 use Rattle.span_text.specs.Expressions.{Form, literal, expanded, variable, member, group, prefixed, stepped, between, chosen, assigned, tree, joined, prefix, written, is_bare, Fits}
-use Rattle.sh_grammar.proofs.Tools.{If, chosen_by, chosen_some}
 use Rattle.sh_grammar.specs.Steps.{limit}
 use Rattle.sh_grammar.specs.Sums.{is_sh_expr}
 use Rattle.sh_printing.specs.Spellable.{assigns}

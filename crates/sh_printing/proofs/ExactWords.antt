@@ -201,4 +201,3 @@ parts_of_word k i d s m e ones others vs (inr a) o is =
 pub word_parts_rule : (k : Known) (i : Bool) (d : ℕ) (s e : State) (vs : List Node) → Sat k (Fine k i) (Says i) (body table.word_parts) d s e vs → Says i table.word_parts d s e vs
 unfolding holds
 word_parts_rule k i d s e vs a = parts_of_word k i d s a.middle e a.ones a.others vs a.before a.rest.claim a.is
-
