@@ -8,14 +8,13 @@ use Rattle.sh_grammar.specs.Shape as shape
 use Rattle.sh_grammar.specs.Shape.{plain, no_part, part, no_word, word, no_redirect, redirect, no_assign, assign, RedirectOp, read, write, append, here_literal, here_expanded, copy_in, copy_out}
 use Rattle.sh_grammar.specs.Bytes.{Text, in_word, in_body, gap, starts, unit_starts, begins_unit}
 use Rattle.sh_grammar.specs.Tokens.{Open, DLess, is_token}
-use Rattle.sh_grammar.specs.Steps.{is_copied}
 use Rattle.sh_printing.specs.Delimiters.{delimiter, free_from, tries}
-use Rattle.sh_printing.specs.Marks.{End, ended, blank, led, fd_text, aimed_text, delimiter_text}
+use Rattle.sh_printing.specs.Marks.{End, ended, blank, led, fd_text, aimed_text}
 use Rattle.sh_printing.specs.Spellable.{begins_with}
-use Rattle.sh_printing.specs.Printing.{parts_text, words_text, redirects_text, assigns_text, value_text, owed_behind, parts_open}
-use Rattle.sh_printing.specs.Printable.{word_fits, words_fit, redirects_fit, fd_fits, is_copied_word, is_copied_text}
-use Rattle.sh_printing.proofs.BackBytes.{both, isnt, neither, joins, no_join, gap_is, gap_blank, three}
-use Rattle.sh_printing.proofs.BackTokens.{Outside, word_ends, test_is, metas}
+use Rattle.sh_printing.specs.Printing.{parts_text, words_text, redirects_text, assigns_text, owed_behind, parts_open}
+use Rattle.sh_printing.specs.Printable.{word_fits, words_fit, redirects_fit, fd_fits, is_copied_word}
+use Rattle.sh_printing.proofs.BackBytes.{both, joins, no_join, gap_is, three}
+use Rattle.sh_printing.proofs.BackTokens.{Outside, word_ends, test_is}
 use Rattle.sh_printing.proofs.BackBehind.{parts_on}
 use Rattle.sh_printing.proofs.BackWordFronts.{WordFront, word_begins}
 use Rattle.sh_printing.proofs.BackDelimiters.{delimiter_word, is_delimiter_byte, plain_delimiter, digit_at}
@@ -97,9 +96,12 @@ pub assigns_outside : (vs : shape.Assigns) (t : Text) → Outside t → Outside 
 assigns_outside no_assign t o = o
 assigns_outside (assign n v more) t o = word_ends _ refl
 
-pub redirects_outside : (end : End) (owed : Text) (rs : shape.Redirects) (t : Text) → Outside (redirects_text true true end owed rs ++ t)
-redirects_outside end owed no_redirect t = (any_end end owed t).is.outside
-redirects_outside end owed (redirect fd op w rs) t = word_ends _ refl
+pub ended_outside : (end : End) (t owed : Text) → Outside (ended end owed ++ t)
+ended_outside end t owed = (any_end end owed t).is.outside
+
+pub redirects_outside : (last : Text → Text) (owed : Text) (rs : shape.Redirects) (t : Text) → ((x : Text) → Outside (last x ++ t)) → Outside (redirects_text true true last owed rs ++ t)
+redirects_outside last owed no_redirect t o = o owed
+redirects_outside last owed (redirect fd op w rs) t o = word_ends _ refl
 
 -- no parenthesis comes next
 pub words_open : (i : Bool) (d : ℕ) (ws : shape.Words) (t : Text) → words_fit i d ws ≡ true → Outside t → is_token Open t ≡ false → is_token Open (words_text true true ws ++ t) ≡ false
@@ -207,21 +209,24 @@ led_over true a t = refl
 led_over false a t = refl
 
 -- the text of redirections, with the first one in front
-pub redirects_split : (behind : Bool) (end : End) (owed : Text) (fd : Option ℕ) (op : RedirectOp) (w : shape.Parts) (rs : shape.Redirects) (t : Text) →
-    redirects_text true behind end owed (redirect fd op w rs) ++ t ≡ led behind (fd_text fd ++ (op_text op ++ (aimed_word op w (Rattle.sh_printing.specs.Marks.gap owed) ++ (redirects_text true true end (owed_behind true op (parts_open w) (Rattle.sh_printing.proofs.BackNamed.body_of w) owed) rs ++ t))))
-redirects_split behind end owed fd op w rs t =
-    let rest = redirects_text true true end (owed_behind true op (parts_open w) (Rattle.sh_printing.proofs.BackNamed.body_of w) owed) rs in
+pub redirects_split : (behind : Bool) (last : Text → Text) (owed : Text) (fd : Option ℕ) (op : RedirectOp) (w : shape.Parts) (rs : shape.Redirects) (t : Text) →
+    redirects_text true behind last owed (redirect fd op w rs) ++ t ≡ led behind (fd_text fd ++ (op_text op ++ (aimed_word op w (Rattle.sh_printing.specs.Marks.gap owed) ++ (redirects_text true true last (owed_behind true op (parts_open w) (Rattle.sh_printing.proofs.BackNamed.body_of w) owed) rs ++ t))))
+redirects_split behind last owed fd op w rs t =
+    let rest = redirects_text true true last (owed_behind true op (parts_open w) (Rattle.sh_printing.proofs.BackNamed.body_of w) owed) rs in
     let a = aimed_text true op (Rattle.sh_printing.proofs.BackNamed.body_of w) (parts_text true in_word (Rattle.sh_printing.specs.Marks.gap owed) w) in
     append_assoc (led behind (fd_text fd ++ a)) rest t ∙ led_over behind (fd_text fd ++ a) (rest ++ t) ∙ ap (led behind) (append_assoc (fd_text fd) a (rest ++ t) ∙ ap (λ (z : Text). fd_text fd ++ z) (aimed_is op w (Rattle.sh_printing.specs.Marks.gap owed) (rest ++ t)))
 
-pub redirect_at : (i : Bool) (d : ℕ) (end : End) (owed : Text) (fd : Option ℕ) (op : RedirectOp) (w : shape.Parts) (rs : shape.Redirects) (t : Text) → redirects_fit i d (redirect fd op w rs) ≡ true → RedirectFront (redirects_text true false end owed (redirect fd op w rs) ++ t)
-redirect_at i d end owed fd op w rs t e =
+pub redirect_at : (i : Bool) (d : ℕ) (last : Text → Text) (owed : Text) (fd : Option ℕ) (op : RedirectOp) (w : shape.Parts) (rs : shape.Redirects) (t : Text) → redirects_fit i d (redirect fd op w rs) ≡ true → RedirectFront (redirects_text true false last owed (redirect fd op w rs) ++ t)
+redirect_at i d last owed fd op w rs t e =
     let f = redirect_facts i d fd op w rs e in
-    subst RedirectFront (sym (redirects_split false end owed fd op w rs t)) (fd_front fd op _ f.fd_fits (f.aim (Rattle.sh_printing.specs.Marks.gap owed) (redirects_text true true end (owed_behind true op (parts_open w) (Rattle.sh_printing.proofs.BackNamed.body_of w) owed) rs ++ t)))
+    subst RedirectFront (sym (redirects_split false last owed fd op w rs t)) (fd_front fd op _ f.fd_fits (f.aim (Rattle.sh_printing.specs.Marks.gap owed) (redirects_text true true last (owed_behind true op (parts_open w) (Rattle.sh_printing.proofs.BackNamed.body_of w) owed) rs ++ t)))
 
-pub redirects_no_open : (i : Bool) (d : ℕ) (end : End) (owed : Text) (rs : shape.Redirects) (t : Text) → redirects_fit i d rs ≡ true → is_token Open (redirects_text true true end owed rs ++ t) ≡ false
-redirects_no_open i d end owed no_redirect t e = let x = any_end end owed t in end_open x.op (ended end owed ++ t) x.rest x.is
-redirects_no_open i d end owed (redirect fd op w rs) t e =
-    let f = redirect_at i d end owed fd op w rs t e in
-    let v = redirects_text true false end owed (redirect fd op w rs) ++ t in
-    ap (is_token Open) (redirects_split true end owed fd op w rs t ∙ ap (λ (z : Text). 32 ∷ z) (sym (redirects_split false end owed fd op w rs t))) ∙ blank_test Open v ∙ test_is f.op Open v f.rest (token_of v v f.op f.rest f.solid f.token_is) ∙ f.no_open
+pub ended_open : (end : End) (t owed : Text) → is_token Open (ended end owed ++ t) ≡ false
+ended_open end t owed = let x = any_end end owed t in end_open x.op (ended end owed ++ t) x.rest x.is
+
+pub redirects_no_open : (i : Bool) (d : ℕ) (last : Text → Text) (owed : Text) (rs : shape.Redirects) (t : Text) → ((x : Text) → is_token Open (last x ++ t) ≡ false) → redirects_fit i d rs ≡ true → is_token Open (redirects_text true true last owed rs ++ t) ≡ false
+redirects_no_open i d last owed no_redirect t o e = o owed
+redirects_no_open i d last owed (redirect fd op w rs) t o e =
+    let f = redirect_at i d last owed fd op w rs t e in
+    let v = redirects_text true false last owed (redirect fd op w rs) ++ t in
+    ap (is_token Open) (redirects_split true last owed fd op w rs t ∙ ap (λ (z : Text). 32 ∷ z) (sym (redirects_split false last owed fd op w rs t))) ∙ blank_test Open v ∙ test_is f.op Open v f.rest (token_of v v f.op f.rest f.solid f.token_is) ∙ f.no_open

@@ -1,11 +1,11 @@
 -- Parameters read back: `$a`, `${a}`, `${#a}`, and those with a word.
-use Rattle.std.proofs.Common.{◌≡◌, ℕ, suc, Bool, true, false, List, [], ◌∷◌, ◌++◌, Option, Some, None, refl, sym, ap, subst, ◌∙◌, append_assoc}
+use Rattle.std.proofs.Common.{◌≡◌, ℕ, suc, Bool, true, false, List, [], ◌∷◌, ◌++◌, Some, refl, sym, ap, subst, ◌∙◌, append_assoc}
 use Rattle.std.specs.Prelude.{◌&&◌, not, ◌==◌, nat_lt}
 use Rattle.span_text.specs.Names.{begins_name, is_digit, is_name}
 use Rattle.span_text.proofs.Bytes.{apart}
 use Rattle.text_grammar.specs.Grammar.{rule}
 use Rattle.sh_grammar.specs.Shape as shape
-use Rattle.sh_grammar.specs.Shape.{Param, named, digits, count, status, at, star, FillTest, default, assigning, alternate, param, as_is, length_of, fill, trim, plain, exact, double, tilde, subst as listing, arith, no_part, part}
+use Rattle.sh_grammar.specs.Shape.{Param, named, digits, count, status, at, star, FillTest, default, param, as_is, length_of, fill, trim, plain, exact, double, tilde, subst as listing, arith, no_part, part}
 use Rattle.sh_grammar.specs.Bytes.{Text, Context, in_word, in_double, in_body, in_brace, in_quoted_brace, in_body_brace, in_body_pattern, is_join, clear, starts, is_literal, is_plain, is_active, fill_context, trim_context}
 use Rattle.sh_grammar.specs.Expansions.{filling, trimming, is_close, head_at, param_at}
 use Rattle.sh_grammar.specs.State.{Sum, Node, part_node, parts_in}

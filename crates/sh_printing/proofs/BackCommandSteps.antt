@@ -1,5 +1,5 @@
 -- The steps of the induction over commands: redirections, assignments, words.
-use Rattle.std.proofs.Common.{◌≡◌, ℕ, Bool, true, false, List, [], ◌∷◌, ◌++◌, length, Option, Some, refl, sym, ap, ◌∙◌, append_assoc}
+use Rattle.std.proofs.Common.{◌≡◌, ℕ, Bool, true, false, List, [], ◌∷◌, ◌++◌, length, Option, Some, refl, sym, ap, subst, ◌∙◌, append_assoc}
 use Rattle.std.specs.Prelude.{not}
 use Rattle.std.specs.List.{list_all}
 use Rattle.std.proofs.lemmas.Bool.{true≢false}
@@ -7,7 +7,7 @@ use Rattle.text_grammar.specs.Grammar.{star, rule}
 use Rattle.text_grammar.specs.Derivations.{Tree, more, At}
 use Rattle.text_grammar.specs.Values.{kids}
 use Rattle.sh_grammar.specs.Shape as shape
-use Rattle.sh_grammar.specs.Shape.{RedirectOp, read, write, append, here_literal, here_expanded, copy_in, copy_out, redirect, no_redirect, no_part, part, plain}
+use Rattle.sh_grammar.specs.Shape.{RedirectOp, here_literal, here_expanded, copy_in, copy_out, redirect, no_redirect, no_part, part, plain}
 use Rattle.sh_grammar.specs.Bytes.{Text, in_word, gap}
 use Rattle.sh_grammar.specs.State.{State, Sum, Node, redirect_node, aimed_node}
 use Rattle.sh_grammar.specs.Table.{Test, Rule}
@@ -28,11 +28,11 @@ use Rattle.sh_printing.proofs.BackDelimiters.{delimiter_word, delimiter_bytes, d
 use Rattle.sh_printing.proofs.BackRedirects.{Target, op_text, redirect_says, redirect_begins, here_says, copy_in_says, copy_out_says}
 use Rattle.sh_printing.proofs.BackNamed.{body_of, parts_bodies}
 use Rattle.sh_printing.proofs.BackNodes.{redirect_nodes}
-use Rattle.sh_printing.proofs.BackEnds.{any_end}
+use Rattle.sh_printing.proofs.BackEnds.{Ended, any_end}
 use Rattle.sh_printing.proofs.BackCommands.{Redirecting}
 use Rattle.sh_printing.proofs.BackLists.{On}
 use Rattle.sh_printing.proofs.BackExpand.{literal_back}
-use Rattle.sh_printing.proofs.BackBegins.{here_word, aimed_word, redirects_split}
+use Rattle.sh_printing.proofs.BackBegins.{here_word, aimed_word, redirects_split, ended_outside}
 use Rattle.sh_printing.proofs.BackSums.{opening_of}
 
 -- ---- here-documents
@@ -126,19 +126,19 @@ led_gap true t e = gap_blank t ∙ e
 led_gap false t e = e
 
 -- the text of the redirections that are left, with what is owed before them
-abbrev pub redirects_on : End → Due → shape.Redirects → Text → Text
-redirects_on end h rs t = redirects_text true true end (pending_text h.owing) rs ++ t
+abbrev pub redirects_on : (Text → Text) → Due → shape.Redirects → Text → Text
+redirects_on last h rs t = redirects_text true true last (pending_text h.owing) rs ++ t
 
-pub redirects_step : (k : Known) (d : ℕ) (q : List Sum) (g h : Due) (end : End) (fd : Option ℕ) (op : RedirectOp) (w : shape.Parts) (rs : shape.Redirects) (t : Text) (all : List Text) (p : Test) (r : Rule) → Redirecting p r → (behind : Bool) (bytes : Text) → gap bytes ≡ gap (redirects_text true behind end (pending_text g.owing) (redirect fd op w rs) ++ t) → fd_fits fd ≡ true →
+pub redirects_step : (k : Known) (d : ℕ) (q : List Sum) (g h : Due) (last : Text → Text) (fd : Option ℕ) (op : RedirectOp) (w : shape.Parts) (rs : shape.Redirects) (t : Text) (all : List Text) (p : Test) (r : Rule) → Redirecting p r → (behind : Bool) (bytes : Text) → gap bytes ≡ gap (redirects_text true behind last (pending_text g.owing) (redirect fd op w rs) ++ t) → fd_fits fd ≡ true →
     pending_text h.owing ≡ owed_behind true op (parts_open w) (body_of w) (pending_text g.owing) →
-    Target k d q g h op w (op_text op ++ (aimed_word op w (opening_of g) ++ redirects_on end h rs t)) (redirects_on end h rs t) →
-    On k (star p (rule r)) d q (st d q h (redirects_on end h rs t)) end t (redirect_nodes rs) all →
-    On k (star p (rule r)) d q (st d q g bytes) end t (redirect_nodes (redirect fd op w rs)) all
-redirects_step k d q g h end fd op w rs t all p r R behind bytes same f e target on =
-    let u = redirects_on end h rs t in
+    Target k d q g h op w (op_text op ++ (aimed_word op w (opening_of g) ++ redirects_on last h rs t)) (redirects_on last h rs t) →
+    On k (star p (rule r)) d q (st d q h (redirects_on last h rs t)) last t (redirect_nodes rs) all →
+    On k (star p (rule r)) d q (st d q g bytes) last t (redirect_nodes (redirect fd op w rs)) all
+redirects_step k d q g h last fd op w rs t all p r R behind bytes same f e target on =
+    let u = redirects_on last h rs t in
     let v = op_text op ++ (aimed_word op w (opening_of g) ++ u) in
     let x = redirect_says k d q g h fd op w v u f target in
-    let is : redirects_text true behind end (pending_text g.owing) (redirect fd op w rs) ++ t ≡ led behind (fd_text fd ++ v) = redirects_split behind end (pending_text g.owing) fd op w rs t ∙ ap (λ (z : Text). led behind (fd_text fd ++ (op_text op ++ (aimed_word op w (opening_of g) ++ (redirects_text true true end z rs ++ t))))) (sym e) in
+    let is : redirects_text true behind last (pending_text g.owing) (redirect fd op w rs) ++ t ≡ led behind (fd_text fd ++ v) = redirects_split behind last (pending_text g.owing) fd op w rs t ∙ ap (λ (z : Text). led behind (fd_text fd ++ (op_text op ++ (aimed_word op w (opening_of g) ++ (redirects_text true true last z rs ++ t))))) (sym e) in
     let gp = same ∙ ap gap is ∙ led_gap behind (fd_text fd ++ v) x.front.solid in
     let b = redirect_begins (fd_text fd ++ v) bytes x.front gp in
     let s = st d q g bytes in
@@ -159,10 +159,20 @@ pub starts_same : (rs : shape.Redirects) (text : Text) → StartsAs rs text text
 starts_same no_redirect text = refl
 starts_same (redirect fd op w rs) text = refl
 
-pub no_redirects : (k : Known) (d : ℕ) (q : List Sum) (g : Due) (end : End) (t : Text) (p : Test) (r : Rule) → Redirecting p r → On k (star p (rule r)) d q (st d q g (ended end (pending_text g.owing) ++ t)) end t [] (named g)
-no_redirects k d q g end t p r R =
-    let x = any_end end (pending_text g.owing) t in
-    record { owing = g.owing; found = g.found; says = no_more (R.ends (st d q g (ended end (pending_text g.owing) ++ t)) x.op x.rest x.is); is_all = refl }
+-- what may stand behind redirections: nothing that their repetition goes on with
+pub record Lasts (p : Test) (last : Text → Text) (t : Text) : Type 0 where
+  pub outside : (owed : Text) → Outside (last owed ++ t)
+  pub stops : (s : State) (owed : Text) → s.bytes ≡ last owed ++ t → holds p s ≡ false
+
+stops_at : (p : Test) (r : Rule) → Redirecting p r → (end : End) (t : Text) (s : State) (owed : Text) → s.bytes ≡ ended end owed ++ t → holds p s ≡ false
+stops_at p r R end t s owed e = let x = any_end end owed t in R.ends s x.op x.rest (subst (λ (z : Text). Ended x.op z x.rest) (sym e) x.is)
+
+pub ended_lasts : (p : Test) (r : Rule) → Redirecting p r → (end : End) (t : Text) → Lasts p (ended end) t
+ended_lasts p r R end t = record { outside = ended_outside end t; stops = stops_at p r R end t }
+
+pub no_redirects : (k : Known) (d : ℕ) (q : List Sum) (g : Due) (last : Text → Text) (t : Text) (p : Test) (r : Rule) → Lasts p last t → On k (star p (rule r)) d q (st d q g (last (pending_text g.owing) ++ t)) last t [] (named g)
+no_redirects k d q g last t p r L =
+    record { owing = g.owing; found = g.found; says = no_more (L.stops (st d q g (last (pending_text g.owing) ++ t)) (pending_text g.owing) refl); is_all = refl }
 
 -- ---- the first turn of a repetition
 

@@ -15,7 +15,7 @@ use Rattle.sh_printing.proofs.BackBytes.{and_no, no_join, gap_is}
 use Rattle.sh_printing.proofs.BackTokens.{Outside, test_is, key_test, key_token, key_gap, close_token, semis_token}
 use Rattle.sh_printing.proofs.BackEnds.{Ended, end_redirect, end_word, end_assign}
 use Rattle.sh_printing.proofs.BackKeys.{NoKeys, no_compound, by_none}
-use Rattle.sh_printing.proofs.BackSimple.{SimpleFront, carry_token, carry_key, carry_compound, carry_simple, carry_function, word_no_redirect, word_is_word, word_is_other}
+use Rattle.sh_printing.proofs.BackSimple.{SimpleFront, carry_key, carry_compound, carry_simple, carry_function, word_no_redirect, word_is_word, word_is_other}
 
 -- ---- repetitions of redirections and words
 

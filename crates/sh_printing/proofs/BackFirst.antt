@@ -1,6 +1,6 @@
 -- The first word of a command: no assignment, no reserved word, no function's name.
 use Rattle.std.proofs.Common.{◌≡◌, ℕ, Bool, true, false, cond, [], ◌∷◌, ◌++◌, None, refl, sym, ap, subst, ◌∙◌}
-use Rattle.std.specs.Prelude.{◌||◌, ◌&&◌, not, ◌==◌}
+use Rattle.std.specs.Prelude.{◌&&◌, not, ◌==◌}
 use Rattle.std.proofs.lemmas.Bool.{true≢false, false≢true}
 use Rattle.span_text.specs.Names.{is_digit, continues_name, begins_name}
 use Rattle.span_text.proofs.Bytes.{apart, first_is_name}

@@ -1,15 +1,15 @@
 -- The first bytes of the printed parts of words.
-use Rattle.std.proofs.Common.{◌≡◌, ℕ, suc, Bool, true, false, List, [], ◌∷◌, ◌++◌, Some, refl, sym, ap, subst, ◌∙◌, append_assoc}
+use Rattle.std.proofs.Common.{◌≡◌, ℕ, Bool, true, false, [], ◌∷◌, ◌++◌, refl, sym, ap, subst, append_assoc}
 use Rattle.std.specs.Prelude.{◌||◌, ◌&&◌, not, ◌==◌}
 use Rattle.std.specs.List.{list_all}
 use Rattle.span_text.specs.Names.{is_letter, begins_name, continues_name, is_digit, is_name}
 use Rattle.span_text.proofs.Bytes.{apart}
 use Rattle.sh_grammar.specs.Shape as shape
-use Rattle.sh_grammar.specs.Shape.{plain, exact, double, tilde, param, subst as listing, arith, no_part, part, as_is, length_of, fill, trim, named, digits, count, status, at, star}
+use Rattle.sh_grammar.specs.Shape.{plain, exact, double, tilde, param, subst as listing, arith, as_is, length_of, fill, trim, named, digits, count, status, at, star}
 use Rattle.sh_grammar.specs.Bytes.{Text, Context, in_word, in_double, in_body, in_brace, in_quoted_brace, in_body_brace, in_body_pattern, starts, expands, is_special_param, is_bare_dollar, is_meta, is_active, is_plain, is_escaped, has_single, has_double, is_bare_backslash, is_literal, begins_unit, unit_starts}
 use Rattle.sh_grammar.specs.Tokens.{is_angle}
 use Rattle.sh_printing.specs.Marks.{exact_text, is_quote, param_text}
-use Rattle.sh_printing.specs.Spellable.{is_literal_text, ends_with, begins_with, exact_fits, exact_fits_by, is_escaped_text, keeps, bare_fits, is_digits, is_long}
+use Rattle.sh_printing.specs.Spellable.{exact_fits, exact_fits_by, keeps, bare_fits, is_digits}
 use Rattle.sh_printing.specs.Printing.{part_text, continued}
 use Rattle.sh_printing.specs.Printable.{part_fits, parts_fit, is_plain_part, is_expansion}
 use Rattle.sh_printing.proofs.BackBytes.{both, isnt, joins, no_join, clear_is, goes_at}

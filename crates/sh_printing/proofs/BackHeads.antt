@@ -1,27 +1,27 @@
 -- Where printed commands, pipelines and lists begin.
 use Rattle.std.proofs.Common.{◌≡◌, ℕ, suc, Bool, true, false, [], ◌∷◌, ◌++◌, refl, sym, ap, subst, ◌∙◌, append_assoc}
-use Rattle.std.specs.Prelude.{◌||◌, ◌&&◌, not, ◌==◌, nat_lt}
-use Rattle.std.proofs.lemmas.Bool.{false≢true}
+use Rattle.std.specs.Prelude.{◌||◌, ◌&&◌, not, ◌==◌, nat_lt, if◌then◌else◌}
+use Rattle.std.proofs.lemmas.Bool.{true≢false, false≢true}
 use Rattle.span_text.specs.Names.{is_name}
 use Rattle.sh_grammar.specs.Shape as shape
-use Rattle.sh_grammar.specs.Shape.{no_word, word, no_redirect, redirect, no_assign, assign, command, simple, group, subshell, branching, loop, walk, cases, function, no_branch, branch, stage, no_stage, pipeline, chain, no_chain, next_chain, no_link, and_link, or_link}
-use Rattle.sh_grammar.specs.Bytes.{Text, in_word, gap, is_literal, is_plain, is_active, is_meta, literal_run, unit_starts, starts}
+use Rattle.sh_grammar.specs.Shape.{no_word, word, no_redirect, redirect, no_assign, assign, command, simple, group, subshell, branching, loop, walk, cases, function, no_branch, branch, stage, no_stage, pipeline, chain, no_chain, next_chain}
+use Rattle.sh_grammar.specs.Bytes.{Text, in_word, gap, is_literal, is_plain, is_active, is_meta, literal_run}
 use Rattle.sh_grammar.specs.Tokens.{Open, Newline, code, is_token, If, For, While, Until, Case, OpenBrace, Bang, key_text, command_next, compound_next, simple_next, name_next, pipeline_next}
-use Rattle.sh_printing.specs.Marks.{End, ended, blank, led}
+use Rattle.sh_printing.specs.Marks.{End, ended, blank}
 use Rattle.sh_printing.specs.Spellable.{is_reserved_text, is_literal_text}
-use Rattle.sh_printing.specs.Printing.{parts_text, words_text, redirects_text, assigns_text, value_text, command_text, stages_text, pipeline_text, links_text, chain_text, list_text, is_something, has_assign, has_word, stage_end, link_end}
-use Rattle.sh_printing.specs.Printable.{word_fits, words_fit, redirects_fit, assigns_fit, name_fits, kind_fits, command_fits, stages_fit, pipeline_fits, links_fit, chain_fits, list_fits, has_redirect, has_chain, has_stage, has_branch, is_assignment, is_reserved_word, has_compound, branches_fit, otherwise_fits}
+use Rattle.sh_printing.specs.Printing.{parts_text, words_text, redirects_text, assigns_text, value_text, command_text, stages_text, pipeline_text, links_text, chain_text, list_text, has_assign, has_word, last_words_text, stage_end, link_end}
+use Rattle.sh_printing.specs.Printable.{word_fits, words_fit, redirects_fit, assigns_fit, name_fits, kind_fits, command_fits, stages_fit, pipeline_fits, links_fit, chain_fits, list_fits, has_redirect, has_chain, is_assignment, is_reserved_word, has_compound, branches_fit, otherwise_fits}
 use Rattle.sh_printing.proofs.BackBytes.{both, isnt, no_join, gap_is, literal_back}
 use Rattle.sh_printing.proofs.BackTokens.{word_ends, test_is, key_gap, key_token, open_token, key_test}
 use Rattle.sh_printing.proofs.BackBehind.{parts_on}
 use Rattle.sh_printing.proofs.BackBraces.{right_five, right_four}
 use Rattle.sh_printing.proofs.BackWordFronts.{WordFront}
 use Rattle.sh_printing.proofs.BackKeys.{NoKeys, no_compound, no_other, by_none, by_text}
-use Rattle.sh_printing.proofs.BackNamed.{begins_reserved, kind_free, command_free, assigns_free, words_free, stages_free, pipeline_free, links_free, chain_free, list_free, redirects_free}
+use Rattle.sh_printing.proofs.BackNamed.{command_free, stages_free, pipeline_free, links_free, chain_free, list_free}
 use Rattle.sh_printing.proofs.BackSimple.{SimpleFront, redirect_simple, assign_front, name_word, name_bytes, name_plain, word_token, word_is_other, word_is_word, word_no_redirect}
 use Rattle.sh_printing.proofs.BackFirst.{first_simple}
 use Rattle.sh_printing.proofs.BackCommands.{CommandFront, simple_front, key_command, pipeline_begins_at}
-use Rattle.sh_printing.proofs.BackBegins.{words_outside, redirects_outside, words_open, redirects_no_open, redirect_at}
+use Rattle.sh_printing.proofs.BackBegins.{words_outside, redirects_outside, ended_outside, ended_open, words_open, redirects_no_open, redirect_at}
 
 -- ---- simple commands
 
@@ -40,31 +40,57 @@ simple_facts i d vs ws rs e =
 
 -- the text of a simple command, with what is behind it
 abbrev pub simple_text : End → shape.Assigns → shape.Words → shape.Redirects → Text → Text
-simple_text end vs ws rs t = (assigns_text true false vs ++ words_text true (has_assign vs) ws ++ redirects_text true (is_something (simple vs ws)) end [] rs) ++ t
+simple_text end vs ws rs t = command_text true end (command (simple vs ws) rs) ++ t
 
 pub assign_split : (end : End) (n : Text) (v : shape.Value) (more : shape.Assigns) (ws : shape.Words) (rs : shape.Redirects) (t : Text) →
-    simple_text end (assign n v more) ws rs t ≡ n ++ 61 ∷ (value_text true v ++ (assigns_text true true more ++ (words_text true true ws ++ (redirects_text true true end [] rs ++ t))))
+    simple_text end (assign n v more) ws rs t ≡ n ++ 61 ∷ (value_text true v ++ (assigns_text true true more ++ (words_text true true ws ++ (redirects_text true true (ended end) [] rs ++ t))))
 assign_split end n v more ws rs t =
-    right_five (n ++ 61 ∷ value_text true v) (assigns_text true true more) (words_text true true ws) (redirects_text true true end [] rs) t
-    ∙ append_assoc n (61 ∷ value_text true v) (assigns_text true true more ++ (words_text true true ws ++ (redirects_text true true end [] rs ++ t)))
+    right_five (n ++ 61 ∷ value_text true v) (assigns_text true true more) (words_text true true ws) (redirects_text true true (ended end) [] rs) t
+    ∙ append_assoc n (61 ∷ value_text true v) (assigns_text true true more ++ (words_text true true ws ++ (redirects_text true true (ended end) [] rs ++ t)))
 
-pub word_split : (end : End) (w : shape.Parts) (ws : shape.Words) (rs : shape.Redirects) (t : Text) →
-    simple_text end no_assign (word w ws) rs t ≡ parts_on in_word blank w (words_text true true ws ++ (redirects_text true true end [] rs ++ t))
-word_split end w ws rs t = right_four (parts_text true in_word blank w) (words_text true true ws) (redirects_text true true end [] rs) t
+-- the text of a command of words, by where its words stand
+abbrev called_text : Bool → End → shape.Parts → shape.Words → shape.Redirects → Text
+called_text last end w ws rs = (if last then [] else words_text true false (word w ws)) ++ redirects_text true (not last) (if last then last_words_text true end (word w ws) else ended end) [] rs
 
-pub simple_begins : (i : Bool) (d : ℕ) (end : End) (vs : shape.Assigns) (ws : shape.Words) (rs : shape.Redirects) (t : Text) → kind_fits i d (has_redirect rs) (simple vs ws) ≡ true → redirects_fit i d rs ≡ true → begins_reserved vs ws ≡ false → SimpleFront (simple_text end vs ws rs t)
-simple_begins i d end (assign n v more) ws rs t e f r =
+called_is : (last : Bool) (end : End) (w : shape.Parts) (ws : shape.Words) (rs : shape.Redirects) → is_reserved_word w ≡ last → command_text true end (command (simple no_assign (word w ws)) rs) ≡ called_text last end w ws rs
+called_is last end w ws rs e = ap (λ (z : Bool). called_text z end w ws rs) e
+
+pub word_split : (end : End) (w : shape.Parts) (ws : shape.Words) (rs : shape.Redirects) (t : Text) → is_reserved_word w ≡ false →
+    simple_text end no_assign (word w ws) rs t ≡ parts_on in_word blank w (words_text true true ws ++ (redirects_text true true (ended end) [] rs ++ t))
+word_split end w ws rs t e = ap (λ (z : Text). z ++ t) (called_is false end w ws rs e) ∙ right_four (parts_text true in_word blank w) (words_text true true ws) (redirects_text true true (ended end) [] rs) t
+
+pub last_split : (end : End) (w : shape.Parts) (ws : shape.Words) (rs : shape.Redirects) (t : Text) → is_reserved_word w ≡ true →
+    simple_text end no_assign (word w ws) rs t ≡ redirects_text true false (last_words_text true end (word w ws)) [] rs ++ t
+last_split end w ws rs t e = ap (λ (z : Text). z ++ t) (called_is true end w ws rs e)
+
+-- a reserved word is a command's name behind redirections alone
+pub last_redirected : (w : shape.Parts) (ws : shape.Words) (redirected : Bool) → name_fits redirected (word w ws) ≡ true → is_reserved_word w ≡ true → redirected ≡ true
+last_redirected w ws true e r = refl
+last_redirected w ws false e r = absurd (true≢false (sym r ∙ isnt (is_reserved_word w) (both (not (is_assignment w)) (not (is_reserved_word w)) e).1))
+
+last_begins : (i : Bool) (d : ℕ) (end : End) (w : shape.Parts) (ws : shape.Words) (rs : shape.Redirects) (t : Text) → has_redirect rs ≡ true → redirects_fit i d rs ≡ true → SimpleFront (redirects_text true false (last_words_text true end (word w ws)) [] rs ++ t)
+last_begins i d end w ws no_redirect t h f = absurd (false≢true h)
+last_begins i d end w ws (redirect fd op v rs) t h f = redirect_simple _ (redirect_at i d (last_words_text true end (word w ws)) [] fd op v rs t f)
+
+word_begins_by : (last : Bool) (i : Bool) (d : ℕ) (end : End) (w : shape.Parts) (ws : shape.Words) (rs : shape.Redirects) (t : Text) → is_reserved_word w ≡ last → kind_fits i d (has_redirect rs) (simple no_assign (word w ws)) ≡ true → redirects_fit i d rs ≡ true → SimpleFront (simple_text end no_assign (word w ws) rs t)
+word_begins_by true i d end w ws rs t r e f =
+    let x = simple_facts i d no_assign (word w ws) rs e in
+    subst SimpleFront (sym (last_split end w ws rs t r)) (last_begins i d end w ws rs t (last_redirected w ws (has_redirect rs) x.name r) f)
+word_begins_by false i d end w ws rs t r e f =
+    let x = simple_facts i d no_assign (word w ws) rs e in
+    let y = both (word_fits i d true w) (words_fit i d ws) x.words in
+    let u = redirects_text true true (ended end) [] rs ++ t in
+    let o = redirects_outside (ended end) [] rs t (ended_outside end t) in
+    subst SimpleFront (sym (word_split end w ws rs t r)) (first_simple i d blank w (words_text true true ws ++ u) y.0 r (words_outside ws u o) (words_open i d ws u y.1 o (redirects_no_open i d (ended end) [] rs t (ended_open end t) f)))
+
+pub simple_begins : (i : Bool) (d : ℕ) (end : End) (vs : shape.Assigns) (ws : shape.Words) (rs : shape.Redirects) (t : Text) → kind_fits i d (has_redirect rs) (simple vs ws) ≡ true → redirects_fit i d rs ≡ true → SimpleFront (simple_text end vs ws rs t)
+simple_begins i d end (assign n v more) ws rs t e f =
     let x = simple_facts i d (assign n v more) ws rs e in
     let y = both (is_name n && Rattle.sh_printing.specs.Printable.value_fits i d v) (assigns_fit i d more) x.assigns in
     subst SimpleFront (sym (assign_split end n v more ws rs t)) (assign_front n _ (both (is_name n) (Rattle.sh_printing.specs.Printable.value_fits i d v) y.0).0).simple
-simple_begins i d end no_assign (word w ws) rs t e f r =
-    let x = simple_facts i d no_assign (word w ws) rs e in
-    let y = both (word_fits i d true w) (words_fit i d ws) x.words in
-    let u = redirects_text true true end [] rs ++ t in
-    let o = redirects_outside end [] rs t in
-    subst SimpleFront (sym (word_split end w ws rs t)) (first_simple i d blank w (words_text true true ws ++ u) y.0 r (words_outside ws u o) (words_open i d ws u y.1 o (redirects_no_open i d end [] rs t f)))
-simple_begins i d end no_assign no_word (redirect fd op w rs) t e f r = redirect_simple _ (redirect_at i d end [] fd op w rs t f)
-simple_begins i d end no_assign no_word no_redirect t e f r = let x = simple_facts i d no_assign no_word no_redirect e in absurd (false≢true x.some)
+simple_begins i d end no_assign (word w ws) rs t e f = word_begins_by (is_reserved_word w) i d end w ws rs t refl e f
+simple_begins i d end no_assign no_word (redirect fd op w rs) t e f = redirect_simple _ (redirect_at i d (ended end) [] fd op w rs t f)
+simple_begins i d end no_assign no_word no_redirect t e f = let x = simple_facts i d no_assign no_word no_redirect e in absurd (false≢true x.some)
 
 -- ---- other commands
 
@@ -151,9 +177,7 @@ pub command_begins : (i : Bool) (d : ℕ) (end : End) (c : shape.Command) (t : T
 unfolding key_text
 command_begins i d end (command (simple vs ws) rs) t e f =
     let x = both (kind_fits i d (has_redirect rs) (simple vs ws)) (redirects_fit i d rs) e in
-    let y = both (kind_free (simple vs ws)) (redirects_free rs) f in
-    let z = both (assigns_free vs && words_free ws) (not (begins_reserved vs ws)) y.0 in
-    simple_front _ (simple_begins i d end vs ws rs t x.0 x.1 (isnt (begins_reserved vs ws) z.1))
+    simple_front _ (simple_begins i d end vs ws rs t x.0 x.1)
 command_begins i d end (command (group s) rs) t e f = key_command OpenBrace _ (word_ends _ refl) refl
 command_begins i d end (command (subshell s) rs) t e f = paren_command _
 command_begins i d end (command (branching no_branch o) rs) t e f = absurd (no_if i d o rs e)

@@ -1,6 +1,6 @@
 -- What is printed inside of an expanded body has no join and no NUL.
 use Rattle.std.proofs.Common.{◌≡◌, ℕ, zero, suc, Bool, true, false, [], ◌∷◌, ◌++◌, refl}
-use Rattle.std.specs.Prelude.{◌||◌, ◌&&◌, not, nat_lt, codes}
+use Rattle.std.specs.Prelude.{◌||◌, ◌&&◌, not, nat_lt, codes, if◌then◌else◌}
 use Rattle.std.specs.List.{list_all}
 use Rattle.std.proofs.lemmas.Bool.{false≢true}
 use Rattle.span_text.specs.Names.{is_name}
@@ -8,13 +8,23 @@ use Rattle.sh_grammar.specs.Shape as shape
 use Rattle.sh_grammar.specs.Shape.{plain, exact, double, tilde, param, subst as listing, arith as sum, no_part, part, as_is, length_of, fill, trim, no_word, word, no_value, value, no_assign, assign, no_redirect, redirect, command, simple, group, subshell, branching, loop, walk, cases, function, no_branch, branch, no_else, otherwise, parameters, listed, no_item, item, no_stage, stage, pipeline, no_link, and_link, or_link, chain, no_chain, next_chain}
 use Rattle.sh_grammar.specs.Bytes.{Text, Context, in_word, in_double, in_body, has_double, fill_context, trim_context}
 use Rattle.sh_grammar.specs.Steps.{limit, is_empty, nth}
-use Rattle.sh_printing.specs.Marks.{End, next, blank, gap}
+use Rattle.sh_printing.specs.Marks.{End, next, ended, blank, gap, behind_word}
 use Rattle.sh_printing.specs.Spellable.{is_unjoined, is_literal_text, ends_with, param_fits, nth_check, is_reserved_text, begins_with, sum_fits}
-use Rattle.sh_printing.specs.Printing.{part_text, parts_text, operand_texts, words_text, value_text, assigns_text, redirects_text, command_text, kind_text, branches_text, otherwise_text, for_words_text, patterns_text, items_text, stages_text, pipeline_text, links_text, chain_text, list_text, continued, behind_opening, part_opens, parts_open, has_assign, has_word, stage_end, link_end, is_something}
+use Rattle.sh_printing.specs.Printing.{part_text, parts_text, operand_texts, words_text, value_text, assigns_text, redirects_text, command_text, kind_text, branches_text, otherwise_text, for_words_text, patterns_text, items_text, stages_text, pipeline_text, links_text, chain_text, list_text, continued, behind_opening, part_opens, parts_open, has_assign, has_word, words_last, last_words_text, last_text, stage_end, link_end, is_something}
 use Rattle.sh_printing.specs.Printable
 use Rattle.sh_printing.proofs.BackBytes.{both, three, four, five}
 use Rattle.sh_printing.proofs.BackNamed.{body_of}
 use Rattle.sh_printing.proofs.BackKeptTexts.{Kept, mark, ◌before◌, bytes_of, unjoined_of, name_kept, delimiter_kept, literal_kept, exact_kept, param_kept, bare_kept, colon_kept, test_kept, trim_kept, space, none, gap_kept, ended_kept, led_kept, key_kept, fd_kept, opened, owed_word, whole_kept, literal_body_kept, copied_kept, sum_kept}
+
+-- ---- words that stand behind redirections
+
+either_kept : (p : Bool) (f g : Text → Text) (owed : Text) → Kept (f owed) → Kept (g owed) → Kept ((if p then f else g) owed)
+either_kept true f g owed x y = x
+either_kept false f g owed x y = y
+
+unless_kept : (p : Bool) (t : Text) → Kept t → Kept (if p then [] else t)
+unless_kept true t x = none
+unless_kept false t x = x
 
 -- ---- the nodes
 
@@ -96,40 +106,58 @@ mutual
       let x = three (is_name n) (Printable.value_fits true d v) (Printable.assigns_fit true d vs) e in
       led_kept behind (n ++ 61 ∷ value_text true v) (name_kept n x.0 before (mark (61 ∷ []) refl before value_kept d v x.1)) before assigns_kept d true vs x.2
 
-  redirects_kept : (d : ℕ) (behind : Bool) (end : End) (owed : Text) (rs : shape.Redirects) → Kept owed → Printable.redirects_fit true d rs ≡ true → Kept (redirects_text true behind end owed rs)
-  redirects_kept d behind end owed no_redirect o e = ended_kept end owed o
-  redirects_kept d behind end owed (redirect fd shape.read w rs) o e =
+  last_words_kept : (d : ℕ) (end : End) (ws : shape.Words) (owed : Text) → Kept owed → Printable.words_fit true d ws ≡ true → Kept (last_words_text true end ws owed)
+  last_words_kept d end no_word owed o e = ended_kept end owed o
+  last_words_kept d end (word w ws) owed o e =
+      let x = both (Printable.word_fits true d true w) (Printable.words_fit true d ws) e in
+      led_kept true (parts_text true in_word (gap owed) w) (word_kept d true (gap owed) w (gap_kept owed o) x.0) before last_words_kept d end ws (behind_word (parts_open w) owed) (owed_word (parts_open w) owed o) x.1
+
+  last_kept : (d : ℕ) (end : End) (redirected : Bool) (k : shape.Kind) → Printable.kind_fits true d redirected k ≡ true → (owed : Text) → Kept owed → Kept (last_text true end k owed)
+  last_kept d end r (simple vs ws) e owed o =
+      let x = four (has_assign vs || has_word ws || r) (Printable.assigns_fit true d vs) (Printable.words_fit true d ws) (Printable.name_fits (has_assign vs || r) ws) e in
+      either_kept (words_last vs ws) (last_words_text true end ws) (ended end) owed (last_words_kept d end ws owed o x.2) (ended_kept end owed o)
+  last_kept d end r (group s) e owed o = ended_kept end owed o
+  last_kept d end r (subshell s) e owed o = ended_kept end owed o
+  last_kept d end r (branching bs f) e owed o = ended_kept end owed o
+  last_kept d end r (loop until a b) e owed o = ended_kept end owed o
+  last_kept d end r (walk n ws b) e owed o = ended_kept end owed o
+  last_kept d end r (cases w is) e owed o = ended_kept end owed o
+  last_kept d end r (function n c) e owed o = ended_kept end owed o
+
+  redirects_kept : (d : ℕ) (behind : Bool) (last : Text → Text) (owed : Text) (rs : shape.Redirects) → ((x : Text) → Kept x → Kept (last x)) → Kept owed → Printable.redirects_fit true d rs ≡ true → Kept (redirects_text true behind last owed rs)
+  redirects_kept d behind last owed no_redirect l o e = l owed o
+  redirects_kept d behind last owed (redirect fd shape.read w rs) l o e =
       let x = three (Printable.fd_fits fd) (Printable.word_fits true d true w) (Printable.redirects_fit true d rs) e in
-      led_kept behind _ (fd_kept fd x.0 before (mark (codes "<") refl before word_kept d true (gap owed) w (gap_kept owed o) x.1)) before redirects_kept d true end _ rs (owed_word (parts_open w) owed o) x.2
-  redirects_kept d behind end owed (redirect fd shape.write w rs) o e =
+      led_kept behind _ (fd_kept fd x.0 before (mark (codes "<") refl before word_kept d true (gap owed) w (gap_kept owed o) x.1)) before redirects_kept d true last _ rs l (owed_word (parts_open w) owed o) x.2
+  redirects_kept d behind last owed (redirect fd shape.write w rs) l o e =
       let x = three (Printable.fd_fits fd) (Printable.word_fits true d true w) (Printable.redirects_fit true d rs) e in
-      led_kept behind _ (fd_kept fd x.0 before (mark (codes ">") refl before word_kept d true (gap owed) w (gap_kept owed o) x.1)) before redirects_kept d true end _ rs (owed_word (parts_open w) owed o) x.2
-  redirects_kept d behind end owed (redirect fd shape.append w rs) o e =
+      led_kept behind _ (fd_kept fd x.0 before (mark (codes ">") refl before word_kept d true (gap owed) w (gap_kept owed o) x.1)) before redirects_kept d true last _ rs l (owed_word (parts_open w) owed o) x.2
+  redirects_kept d behind last owed (redirect fd shape.append w rs) l o e =
       let x = three (Printable.fd_fits fd) (Printable.word_fits true d true w) (Printable.redirects_fit true d rs) e in
-      led_kept behind _ (fd_kept fd x.0 before (mark (codes ">>") refl before word_kept d true (gap owed) w (gap_kept owed o) x.1)) before redirects_kept d true end _ rs (owed_word (parts_open w) owed o) x.2
-  redirects_kept d behind end owed (redirect fd shape.here_literal w rs) o e =
+      led_kept behind _ (fd_kept fd x.0 before (mark (codes ">>") refl before word_kept d true (gap owed) w (gap_kept owed o) x.1)) before redirects_kept d true last _ rs l (owed_word (parts_open w) owed o) x.2
+  redirects_kept d behind last owed (redirect fd shape.here_literal w rs) l o e =
       let x = three (Printable.fd_fits fd) (Printable.literal_body true w) (Printable.redirects_fit true d rs) e in
-      led_kept behind _ (fd_kept fd x.0 before (mark (codes "<<'") refl before delimiter_kept (body_of w) before mark (codes "'") refl)) before redirects_kept d true end _ rs (o before whole_kept (body_of w) (literal_body_kept w x.1)) x.2
-  redirects_kept d behind end owed (redirect fd shape.here_expanded w rs) o e =
+      led_kept behind _ (fd_kept fd x.0 before (mark (codes "<<'") refl before delimiter_kept (body_of w) before mark (codes "'") refl)) before redirects_kept d true last _ rs l (o before whole_kept (body_of w) (literal_body_kept w x.1)) x.2
+  redirects_kept d behind last owed (redirect fd shape.here_expanded w rs) l o e =
       let x = three (Printable.fd_fits fd) (Printable.ends_line w && Printable.parts_fit true d in_body w) (Printable.redirects_fit true d rs) e in
       let y = both (Printable.ends_line w) (Printable.parts_fit true d in_body w) x.1 in
-      led_kept behind _ (fd_kept fd x.0 before (mark (codes "<<") refl before delimiter_kept (body_of w))) before redirects_kept d true end _ rs (o before whole_kept (body_of w) (parts_kept d in_body blank w space y.1)) x.2
-  redirects_kept d behind end owed (redirect fd shape.copy_in w rs) o e =
+      led_kept behind _ (fd_kept fd x.0 before (mark (codes "<<") refl before delimiter_kept (body_of w))) before redirects_kept d true last _ rs l (o before whole_kept (body_of w) (parts_kept d in_body blank w space y.1)) x.2
+  redirects_kept d behind last owed (redirect fd shape.copy_in w rs) l o e =
       let x = three (Printable.fd_fits fd) (Printable.is_copied_word w) (Printable.redirects_fit true d rs) e in
-      led_kept behind _ (fd_kept fd x.0 before (mark (codes "<&") refl before copied_kept (gap owed) w x.1)) before redirects_kept d true end _ rs (owed_word (parts_open w) owed o) x.2
-  redirects_kept d behind end owed (redirect fd shape.copy_out w rs) o e =
+      led_kept behind _ (fd_kept fd x.0 before (mark (codes "<&") refl before copied_kept (gap owed) w x.1)) before redirects_kept d true last _ rs l (owed_word (parts_open w) owed o) x.2
+  redirects_kept d behind last owed (redirect fd shape.copy_out w rs) l o e =
       let x = three (Printable.fd_fits fd) (Printable.is_copied_word w) (Printable.redirects_fit true d rs) e in
-      led_kept behind _ (fd_kept fd x.0 before (mark (codes ">&") refl before copied_kept (gap owed) w x.1)) before redirects_kept d true end _ rs (owed_word (parts_open w) owed o) x.2
+      led_kept behind _ (fd_kept fd x.0 before (mark (codes ">&") refl before copied_kept (gap owed) w x.1)) before redirects_kept d true last _ rs l (owed_word (parts_open w) owed o) x.2
 
   command_kept : (d : ℕ) (end : End) (c : shape.Command) → Printable.command_fits true d c ≡ true → Kept (command_text true end c)
   command_kept d end (command k rs) e =
       let x = both (Printable.kind_fits true d (Printable.has_redirect rs) k) (Printable.redirects_fit true d rs) e in
-      kind_kept d end (redirects_text true (is_something k) end [] rs) (Printable.has_redirect rs) k (redirects_kept d (is_something k) end [] rs none x.1) x.0
+      kind_kept d end (redirects_text true (is_something k) (last_text true end k) [] rs) (Printable.has_redirect rs) k (redirects_kept d (is_something k) (last_text true end k) [] rs (last_kept d end (Printable.has_redirect rs) k x.0) none x.1) x.0
 
   kind_kept : (d : ℕ) (end : End) (tail : Text) (redirected : Bool) (k : shape.Kind) → Kept tail → Printable.kind_fits true d redirected k ≡ true → Kept (kind_text true end tail k)
   kind_kept d end tail r (simple vs ws) t e =
       let x = four (has_assign vs || has_word ws || r) (Printable.assigns_fit true d vs) (Printable.words_fit true d ws) (Printable.name_fits (has_assign vs || r) ws) e in
-      assigns_kept d false vs x.1 before words_kept d (has_assign vs) ws x.2 before t
+      assigns_kept d false vs x.1 before unless_kept (words_last vs ws) (words_text true (has_assign vs) ws) (words_kept d (has_assign vs) ws x.2) before t
   kind_kept d end tail r (group s) t e = mark (codes "{ ") refl before list_kept (suc d) s (three (nat_lt d limit) (Printable.has_chain s) (Printable.list_fits true (suc d) s) e).2 before mark (codes "}") refl before t
   kind_kept d end tail r (subshell s) t e = mark (codes "( ") refl before list_kept (suc d) s (three (nat_lt d limit) (Printable.has_chain s) (Printable.list_fits true (suc d) s) e).2 before mark (codes ")") refl before t
   kind_kept d end tail r (branching bs f) t e =

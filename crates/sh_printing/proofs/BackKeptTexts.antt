@@ -15,7 +15,7 @@ use Rattle.span_text.specs.declared.sign.Infix.TheVariants.{Plain, And, Or, Comm
 use Rattle.span_text.specs.Expressions.{Form, literal, expanded, variable, member, group as parens, prefixed, stepped, between, chosen, assigned}
 use Rattle.span_text.proofs.Bytes.{apart}
 use Rattle.sh_grammar.specs.Shape as shape
-use Rattle.sh_grammar.specs.Shape.{plain, exact, double, tilde, param, subst as listing, arith as sum, no_part, part, as_is, length_of, fill, trim, no_word, word, no_value, value, no_assign, assign, no_redirect, redirect, command, simple, group, subshell, branching, loop, walk, cases, function, no_branch, branch, no_else, otherwise, parameters, listed, no_item, item, no_stage, stage, pipeline, no_link, and_link, or_link, chain, no_chain, next_chain}
+use Rattle.sh_grammar.specs.Shape.{plain, exact, double, tilde, param, subst as listing, arith as sum, no_part, part}
 use Rattle.sh_grammar.specs.Bytes.{Text, Context, in_word, in_double, in_body, in_brace, in_quoted_brace, in_body_brace, in_body_pattern, has_single, is_join, is_literal, is_plain, is_active, is_escaped, is_bare_backslash, starts}
 use Rattle.sh_grammar.specs.Steps.{limit, is_empty, is_copied}
 use Rattle.sh_printing.specs.Delimiters.{delimiter}

@@ -1,12 +1,12 @@
 -- Texts that begin with no reserved word.
-use Rattle.std.proofs.Common.{◌≡◌, ℕ, suc, Bool, true, false, List, [], ◌∷◌, ◌++◌, Option, Some, None, refl, sym, ap, subst, ◌∙◌}
+use Rattle.std.proofs.Common.{◌≡◌, ℕ, Bool, true, false, [], ◌∷◌, ◌++◌, refl, sym, ap, ◌∙◌}
 use Rattle.std.specs.Prelude.{◌||◌, ◌&&◌, not, ◌==◌}
 use Rattle.std.specs.List.{list_all}
 use Rattle.std.proofs.lemmas.Bool.{true≢false}
 use Rattle.span_text.specs.Names.{is_digit}
 use Rattle.span_text.specs.KnownNames.{same_text}
 use Rattle.span_text.proofs.Bytes.{apart}
-use Rattle.sh_grammar.specs.Bytes.{Text, in_word, clear, gap, starts, is_join, is_literal, is_plain, is_meta, is_active, literal_run, run_from, with_byte, unit_starts}
+use Rattle.sh_grammar.specs.Bytes.{Text, in_word, gap, is_literal, is_plain, is_active, literal_run, unit_starts}
 use Rattle.sh_grammar.specs.Tokens.{Key, If, Then, Elif, Else, Fi, For, In, Until, While, Do, Done, Case, Esac, OpenBrace, CloseBrace, Bang, key_text, is_whole, is_key, opens_compound, is_other_key}
 use Rattle.sh_printing.specs.Spellable.{is_text, is_reserved_text}
 use Rattle.sh_printing.proofs.BackBytes.{both, neither, and_no, joins, no_join, run_stops, goes_at}

@@ -5,10 +5,10 @@ use Rattle.text_grammar.specs.Grammar.{step, star, rule}
 use Rattle.sh_grammar.specs.Bytes.{Text, gap}
 use Rattle.sh_grammar.specs.Tokens.{Op, Newline, Semi, AndIf, OrIf, Pipe, code, token, is_token}
 use Rattle.sh_grammar.specs.State.{State, Sum, Node}
-use Rattle.sh_grammar.specs.Table.{op, line, next, lines}
+use Rattle.sh_grammar.specs.Table.{line, next, lines}
 use Rattle.sh_grammar.specs.Steps.{Known, run_step, holds}
 use Rattle.sh_printing.specs.Marks as marks
-use Rattle.sh_printing.specs.Marks.{End, piped, and_then, or_else, ended}
+use Rattle.sh_printing.specs.Marks.{End, piped, and_then, or_else}
 use Rattle.sh_printing.proofs.BackSays.{Says, silent_step, by_rule, no_more, one_more, to_state}
 use Rattle.sh_printing.proofs.BackDue.{Due, Pending, named, settled, st, bodies_of, pending_text, bodies_read}
 use Rattle.sh_printing.proofs.BackBytes.{gap_blank, gap_is}

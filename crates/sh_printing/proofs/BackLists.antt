@@ -2,20 +2,20 @@
 use Rattle.std.proofs.Common.{◌≡◌, ℕ, true, false, List, [], ◌∷◌, ◌++◌, refl, sym, ap, ◌∙◌, append_assoc}
 use Rattle.std.specs.Prelude.{◌||◌}
 use Rattle.std.proofs.lemmas.List.{append-nil}
-use Rattle.text_grammar.specs.Grammar.{step, star, rule, pass, fail, choose}
+use Rattle.text_grammar.specs.Grammar.{step, star, rule, choose}
 use Rattle.sh_grammar.specs.Shape as shape
 use Rattle.sh_grammar.specs.Bytes.{Text, gap}
-use Rattle.sh_grammar.specs.Tokens.{Op, Newline, Semi, AndIf, OrIf, Pipe, code, token, is_token, pipeline_next}
+use Rattle.sh_grammar.specs.Tokens.{Newline, Semi, AndIf, OrIf, Pipe, code, token, is_token, pipeline_next}
 use Rattle.sh_grammar.specs.State.{State, Sum, Node, command_node, pipeline_node, and_node, or_node, chain_node}
-use Rattle.sh_grammar.specs.Table.{Gram, op, line, next, separates, links, pipeline_begins, lines, list_more, chain, link, and_link, or_link, pipeline, stage, command}
+use Rattle.sh_grammar.specs.Table.{Gram, op, line, next, separates, links, lines, list_more, chain, link, and_link, or_link, pipeline, stage, command}
 use Rattle.sh_grammar.specs.Steps.{Known, holds}
 use Rattle.sh_printing.specs.Marks as marks
 use Rattle.sh_printing.specs.Marks.{End, piped, and_then, or_else, ended}
 use Rattle.sh_printing.proofs.BackSays.{Says, nothing, ◌then◌, the_first, the_second, by_rule, no_more, one_more, to_state}
 use Rattle.sh_printing.proofs.BackDue.{Due, Pending, settled, st, bodies_of, pending_text, Covers, covers_second}
 use Rattle.sh_printing.proofs.BackBytes.{gap_blank, gap_is}
-use Rattle.sh_printing.proofs.BackTokens.{Outside, test_is, op_says}
-use Rattle.sh_printing.proofs.BackLines.{clean, Goes, line_says, no_lines, lines_say, blank_test}
+use Rattle.sh_printing.proofs.BackTokens.{test_is, op_says}
+use Rattle.sh_printing.proofs.BackLines.{clean, Goes, line_says, no_lines, lines_say}
 use Rattle.sh_printing.proofs.BackEnds.{any_end, marks_pipe, marks_link, piped_end, and_end, or_end, semi_end}
 use Rattle.sh_printing.proofs.BackSimple.{carry_token}
 use Rattle.sh_printing.proofs.BackCommands.{ListEnd}
@@ -24,11 +24,11 @@ use Rattle.sh_printing.proofs.BackCommands.{ListEnd}
 abbrev pub due : List Pending → List Text → Due
 due ps found = record { owing = ps; found = found }
 
--- From a state to what ends a command: what is owed then, and all bodies that were named.
-pub record On (k : Known) (g : Gram) (d : ℕ) (q : List Sum) (s : State) (end : End) (t : Text) (xs : List Node) (all : List Text) : Type 0 where
+-- From a state to what stands behind redirections or a command: what is owed then, and all bodies that were named.
+pub record On (k : Known) (g : Gram) (d : ℕ) (q : List Sum) (s : State) (last : Text → Text) (t : Text) (xs : List Node) (all : List Text) : Type 0 where
   pub owing : List Pending
   pub found : List Text
-  pub says : Says k g s (st d q (due owing found) (ended end (pending_text owing) ++ t)) xs
+  pub says : Says k g s (st d q (due owing found) (last (pending_text owing) ++ t)) xs
   pub is_all : found ++ bodies_of owing ≡ all
 
 -- the state that is settled

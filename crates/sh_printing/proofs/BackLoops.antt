@@ -8,7 +8,7 @@ use Rattle.text_grammar.specs.Grammar.{star, rule}
 use Rattle.sh_grammar.specs.Shape as shape
 use Rattle.sh_grammar.specs.Bytes.{Text, in_word, gap, unit_starts, starts, begins_unit}
 use Rattle.sh_grammar.specs.Tokens.{Newline, Semi, SemiSemi, Open, Close, Pipe, Word, code, is_token, Key, For, In, Do, Done, Case, Esac, key_text, compound_next, name_next, function_next}
-use Rattle.sh_grammar.specs.State.{State, Sum, Node, text_node, kind_node, command_node, script_node, word_node, listed_node, item_node, redirect_node, items_in, listed_in, words_in, redirects_in}
+use Rattle.sh_grammar.specs.State.{State, Sum, Node, text_node, kind_node, command_node, script_node, word_node, listed_node, item_node, items_in, listed_in, words_in}
 use Rattle.sh_grammar.specs.Table.{next, item_begins, redirect_begins, word, pattern, pattern_more, for_loop, for_words, for_in, case_command, case_in, case_item, item_end, maybe_list, compound, compound_command, command, redirect, function_command}
 use Rattle.sh_grammar.specs.Steps.{Known, limit, holds}
 use Rattle.sh_printing.proofs.BackSays.{Says, nothing, ◌then◌, the_first, the_second, by_rule, no_more, one_more}

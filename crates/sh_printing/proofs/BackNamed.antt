@@ -1,18 +1,28 @@
 -- The here-documents in a node: their bodies in the order in which they are named, but for those that stand in bodies.
 use Rattle.std.proofs.Common.{◌≡◌, Bool, true, false, List, [], ◌∷◌, ◌++◌, refl}
-use Rattle.std.specs.Prelude.{◌&&◌, not}
+use Rattle.std.specs.Prelude.{◌&&◌, not, if◌then◌else◌}
 use Rattle.sh_grammar.specs.Shape as shape
 use Rattle.sh_grammar.specs.Shape.{plain, exact, double, tilde, param, subst as listing, arith, no_part, part, as_is, length_of, fill, trim, no_word, word, no_value, value, no_assign, assign, no_redirect, redirect, command, simple, group, subshell, branching, loop, walk, cases, function, no_branch, branch, no_else, otherwise, parameters, listed, no_item, item, no_stage, stage, pipeline, no_link, and_link, or_link, chain, no_chain, next_chain}
 use Rattle.sh_grammar.specs.Bytes.{Text, in_body}
 use Rattle.sh_printing.specs.Marks.{blank}
 use Rattle.sh_printing.specs.Delimiters.{has_line, delimiter}
-use Rattle.sh_printing.specs.Printing.{parts_text, part_opens, parts_open, words_open}
-use Rattle.sh_printing.specs.Printable.{is_reserved_word}
+use Rattle.sh_printing.specs.Printing.{parts_text, part_opens, parts_open, words_open, words_last}
 use Rattle.sh_printing.proofs.BackBytes.{neither}
 
 -- the text of a body
 abbrev pub body_of : shape.Parts → Text
 body_of w = parts_text true in_body blank w
+
+-- a command's words stand behind its redirections
+abbrev pub comes_last : shape.Kind → Bool
+comes_last (simple as' ws) = words_last as' ws
+comes_last (group s) = false
+comes_last (subshell s) = false
+comes_last (branching bs o) = false
+comes_last (loop until t b) = false
+comes_last (walk n ws b) = false
+comes_last (cases w is) = false
+comes_last (function n c) = false
 
 abbrev mutual
   pub part_bodies : shape.Part → List Text
@@ -50,7 +60,7 @@ abbrev mutual
   redirects_bodies (redirect fd op w rs) = parts_bodies w ++ redirects_bodies rs
 
   pub command_bodies : shape.Command → List Text
-  command_bodies (command k rs) = kind_bodies k ++ redirects_bodies rs
+  command_bodies (command k rs) = if comes_last k then redirects_bodies rs ++ kind_bodies k else kind_bodies k ++ redirects_bodies rs
 
   pub kind_bodies : shape.Kind → List Text
   kind_bodies (simple as' ws) = assigns_bodies as' ++ words_bodies ws
@@ -97,13 +107,8 @@ abbrev mutual
   list_bodies no_chain = []
   list_bodies (next_chain c more) = chain_bodies c ++ list_bodies more
 
--- a reserved word as the first word, where no assignment stands before it
-abbrev pub begins_reserved : shape.Assigns → shape.Words → Bool
-begins_reserved no_assign (word w ws) = is_reserved_word w
-begins_reserved vs ws = false
-
--- What the text that is printed relies on. Each body's delimiter is no line of it: so it is where a body has fewer lines than there are
--- delimiters. And no reserved word is a command's name, which a redirection before it would allow.
+-- What the text that is printed relies on: each body's delimiter is no line of it. So it is where a body has fewer lines than there are
+-- delimiters.
 abbrev mutual
   pub part_free : shape.Part → Bool
   part_free (plain text) = true
@@ -143,7 +148,7 @@ abbrev mutual
   command_free (command k rs) = kind_free k && redirects_free rs
 
   pub kind_free : shape.Kind → Bool
-  kind_free (simple as' ws) = assigns_free as' && words_free ws && not (begins_reserved as' ws)
+  kind_free (simple as' ws) = assigns_free as' && words_free ws
   kind_free (group s) = list_free s
   kind_free (subshell s) = list_free s
   kind_free (branching bs o) = branches_free bs && otherwise_free o

@@ -66,6 +66,10 @@ pub words_in_redirects : (rs : Redirects) → words_in (redirect_nodes rs) ≡ n
 words_in_redirects no_redirect = refl
 words_in_redirects (redirect fd op w rs) = words_in_redirects rs
 
+pub words_over_redirects : (rs : Redirects) (xs : List Node) → words_in (redirect_nodes rs ++ xs) ≡ words_in xs
+words_over_redirects no_redirect xs = refl
+words_over_redirects (redirect fd op w rs) xs = words_over_redirects rs xs
+
 -- ---- assignments
 
 pub assigns_before : (vs : Assigns) (xs : List Node) → assigns_in xs ≡ no_assign → assigns_in (assign_nodes vs ++ xs) ≡ vs
@@ -80,6 +84,14 @@ pub assigns_in_redirects : (rs : Redirects) → assigns_in (redirect_nodes rs) �
 assigns_in_redirects no_redirect = refl
 assigns_in_redirects (redirect fd op w rs) = assigns_in_redirects rs
 
+pub assigns_over_redirects : (rs : Redirects) (xs : List Node) → assigns_in (redirect_nodes rs ++ xs) ≡ assigns_in xs
+assigns_over_redirects no_redirect xs = refl
+assigns_over_redirects (redirect fd op w rs) xs = assigns_over_redirects rs xs
+
+pub assigns_in_words : (ws : Words) → assigns_in (word_nodes ws) ≡ no_assign
+assigns_in_words no_word = refl
+assigns_in_words (word w ws) = assigns_in_words ws
+
 -- ---- redirections
 
 pub redirects_only : (rs : Redirects) → redirects_in (redirect_nodes rs) ≡ rs
@@ -93,6 +105,14 @@ redirects_over_words (word w ws) xs = redirects_over_words ws xs
 pub redirects_over_assigns : (vs : Assigns) (xs : List Node) → redirects_in (assign_nodes vs ++ xs) ≡ redirects_in xs
 redirects_over_assigns no_assign xs = refl
 redirects_over_assigns (assign n v more) xs = redirects_over_assigns more xs
+
+pub redirects_before : (rs : Redirects) (xs : List Node) → redirects_in xs ≡ no_redirect → redirects_in (redirect_nodes rs ++ xs) ≡ rs
+redirects_before no_redirect xs e = e
+redirects_before (redirect fd op w rs) xs e = ap (redirect fd op w) (redirects_before rs xs e)
+
+pub redirects_in_words : (ws : Words) → redirects_in (word_nodes ws) ≡ no_redirect
+redirects_in_words no_word = refl
+redirects_in_words (word w ws) = redirects_in_words ws
 
 -- ---- other lists
 

@@ -9,7 +9,7 @@ use Rattle.span_text.proofs.Bytes.{apart}
 use Rattle.text_grammar.specs.Grammar.{star, rule}
 use Rattle.sh_grammar.specs.Shape.{Param, named, digits, count, status, at, star as all, FillTest, default, assigning, alternate, param, subst as listing, as_is, length_of, fill, trim}
 use Rattle.sh_grammar.specs.Bytes.{Text, Context, clear, starts, is_special_param, fill_context, trim_context}
-use Rattle.sh_grammar.specs.Expansions.{Head, closed, filling, trimming, named_as, special, param_at, long_param_at, fills, trims, operator_at, is_close, is_dash, length_head, or_else, hash_head, is_hash, head_at, behind, behind_two, dollar_param, dollar_head, dollar_sum, subst_next, sum_next, brace_next, closed_next, filling_next}
+use Rattle.sh_grammar.specs.Expansions.{closed, filling, trimming, param_at, long_param_at, trims, operator_at, is_close, is_dash, length_head, is_hash, head_at, behind, behind_two, dollar_param, dollar_head, dollar_sum, subst_next, sum_next, brace_next, closed_next, filling_next}
 use Rattle.sh_grammar.specs.State.{Sum, Node, part_node, head_node, script_node, parts_in}
 use Rattle.sh_grammar.specs.Table.{unit_begins, expansion, braces}
 use Rattle.sh_grammar.specs.Table as table

@@ -1,14 +1,14 @@
 -- Parts of words without other nodes read back: bytes that stand for themselves, quoted bytes, parameters.
-use Rattle.std.proofs.Common.{◌≡◌, ℕ, suc, Bool, true, false, List, [], ◌∷◌, ◌++◌, Some, refl, sym, ap, subst, ◌∙◌, append_assoc}
+use Rattle.std.proofs.Common.{◌≡◌, ℕ, Bool, true, false, List, [], ◌∷◌, ◌++◌, Some, refl, ap, subst}
 use Rattle.std.specs.Prelude.{◌||◌, ◌&&◌, not, ◌==◌}
 use Rattle.std.specs.List.{list_all}
 use Rattle.std.proofs.lemmas.List.{append-nil}
 use Rattle.span_text.proofs.Bytes.{apart}
 use Rattle.text_grammar.specs.Grammar.{star, rule}
 use Rattle.sh_grammar.specs.Shape.{plain, exact, double}
-use Rattle.sh_grammar.specs.Bytes.{Text, Context, in_word, in_double, in_body, in_brace, in_quoted_brace, in_body_brace, in_body_pattern, is_join, clear, starts, expands, is_bare_dollar, is_meta, is_active, is_plain, is_escaped, has_single, has_double, is_bare_backslash, is_literal, literal_run, begins_unit, unit_starts}
+use Rattle.sh_grammar.specs.Bytes.{Text, Context, in_word, in_double, in_body, in_brace, in_quoted_brace, in_body_brace, in_body_pattern, is_join, clear, starts, expands, is_bare_dollar, is_meta, is_active, is_plain, is_escaped, has_single, has_double, is_bare_backslash, is_literal}
 use Rattle.sh_grammar.specs.State.{Sum, Node, part_node, parts_in}
-use Rattle.sh_grammar.specs.Table.{literal, single_begins, double_begins, escape_begins, expansion_begins, unit_begins, double_quotes, expansion}
+use Rattle.sh_grammar.specs.Table.{unit_begins, double_quotes, expansion}
 use Rattle.sh_grammar.specs.Table as table
 use Rattle.sh_grammar.specs.Steps.{Known, run_step, holds, escaped_behind, dollar_behind, quoted_run}
 use Rattle.sh_printing.specs.Spellable.{is_literal_text, is_exact_byte}

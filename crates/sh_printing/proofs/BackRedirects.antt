@@ -1,16 +1,16 @@
 -- Redirections read back.
-use Rattle.std.proofs.Common.{◌≡◌, ℕ, zero, suc, ◌+◌, ◌-◌, ◌<◌, ◌≤◌, Bool, true, false, List, [], ◌∷◌, ◌++◌, length, Option, Some, None, refl, sym, ap, subst, ◌∙◌, append_assoc, arith, length-append}
+use Rattle.std.proofs.Common.{◌≡◌, ℕ, suc, ◌+◌, ◌-◌, ◌<◌, Bool, true, false, List, [], ◌∷◌, ◌++◌, length, Option, Some, None, refl, sym, ap, subst, ◌∙◌, arith, length-append}
 use Rattle.std.specs.Prelude.{◌||◌, not, ◌==◌}
 use Rattle.std.specs.Fmt.{decimal}
 use Rattle.std.proofs.lemmas.Bool.{ltb-true}
 use Rattle.std.proofs.lemmas.Fmt.{decimal_digit}
 use Rattle.span_text.specs.Names.{is_digit, begins_name}
 use Rattle.span_text.proofs.Bytes.{apart}
-use Rattle.text_grammar.specs.Grammar.{step, rule, pass}
+use Rattle.text_grammar.specs.Grammar.{step, rule}
 use Rattle.sh_grammar.specs.Shape as shape
 use Rattle.sh_grammar.specs.Shape.{plain, no_part, part, RedirectOp, read, write, append, here_literal, here_expanded, copy_in, copy_out}
 use Rattle.sh_grammar.specs.Bytes.{Text, in_word, gap, starts, is_plain, is_meta, is_active, is_literal, unit_starts, begins_unit, digit_run}
-use Rattle.sh_grammar.specs.Tokens.{Op, Word, Io, Less, Great, DGreat, DLess, DLessDash, LessAnd, GreatAnd, Newline, Open, Other, code, name_at, front, token, is_token, less_at, great_at, here_at, word_at, is_angle, digits_word, here_next, copy_next, redirect_next}
+use Rattle.sh_grammar.specs.Tokens.{Op, Word, Io, Less, Great, DGreat, DLess, DLessDash, LessAnd, GreatAnd, Newline, Open, code, name_at, front, token, is_token, less_at, great_at, here_at, is_angle, here_next, copy_next, redirect_next}
 use Rattle.sh_grammar.specs.Bodies.{delimiter_for}
 use Rattle.sh_grammar.specs.State.{Sum, Node, op_node, aimed_node, redirect_node, digit_node, word_node}
 use Rattle.sh_grammar.specs.Table.{descriptor, redirect, target, file, word}

@@ -1,5 +1,5 @@
 -- What is printed of a script reads as the script.
-use Rattle.std.proofs.Common.{◌≡◌, true, false, List, [], ◌∷◌, ◌++◌, refl, sym, ap, subst, ◌∙◌, arith}
+use Rattle.std.proofs.Common.{◌≡◌, ◌+◌, ◌^◌, ◌<◌, true, false, List, [], ◌∷◌, ◌++◌, length, refl, sym, ap, subst, ◌∙◌, arith}
 use Rattle.std.proofs.lemmas.List.{append-nil}
 use Rattle.text_grammar.specs.Grammar.{rule}
 use Rattle.text_grammar.specs.Derivations.{Tree, empty, leaf, both, first, second, more, node, At}
@@ -10,12 +10,13 @@ use Rattle.sh_grammar.specs.Shape.{no_chain, next_chain}
 use Rattle.sh_grammar.specs.Bytes.{Text, gap}
 use Rattle.sh_grammar.specs.Tokens.{Newline, Semi, is_token, code}
 use Rattle.sh_grammar.specs.State.{State, Node, start_at, fresh, chain_node, chains_in}
-use Rattle.sh_grammar.specs.Table.{Rule, piece, complete, complete_more, goes_on, next, line, ends, op}
+use Rattle.sh_grammar.specs.Table.{Rule, piece, complete, line, ends}
 use Rattle.sh_grammar.specs.Table as table
 use Rattle.sh_grammar.specs.Steps.{Known, holds}
 use Rattle.sh_grammar.specs.Acts.{act}
 use Rattle.sh_grammar.specs.Spelling.{Lang, knowing, levels, sh_with, PieceAt, chains_of, Reads}
 use Rattle.sh_grammar.proofs.Known.{known_in, sh_knows}
+use Rattle.sh_printing.specs.Delimiters.{tries}
 use Rattle.sh_printing.specs.Marks as marks
 use Rattle.sh_printing.specs.Printing.{chain_text, script_text, printed}
 use Rattle.sh_printing.specs.Printable.{chain_fits, list_fits, script_printable}
@@ -30,6 +31,7 @@ use Rattle.sh_printing.proofs.BackNamed.{chain_bodies, chain_free, list_free}
 use Rattle.sh_printing.proofs.BackNodes.{chain_nodes, chains_only}
 use Rattle.sh_printing.proofs.BackHeads.{chain_begins}
 use Rattle.sh_printing.proofs.BackTree.{chain_law}
+use Rattle.sh_printing.proofs.BackBounds.{script_short}
 
 -- ---- what a derivation says doesn't hang on what is known
 
@@ -88,10 +90,15 @@ pieces_law (next_chain c s) from g e f =
     let says : kids (sh_with []) p.tree ≡ chain_node c ∷ [] = ap (λ (l : Lang). kids l p.tree) (sh_knows levels []) ∙ same_kids (known_in levels []) k p.tree ∙ p.says in
     record { trees = p.tree ∷ rest.trees; end = rest.end; reads = (m, at, rest.reads); ends = rest.ends; is = ap (λ (z : List Node). z ++ chains_of rest.trees) says ∙ ap (λ (z : List Node). chain_node c ∷ z) rest.is }
 
--- THE LAW: what is printed of a script that can be printed reads as the script, where each delimiter is free and no reserved word is a
--- command's name behind redirections (`list_free`).
-pub reads_back : (s : shape.Script) → script_printable s ≡ true → list_free s ≡ true → Reads (printed s) s
+free_reads_back : (s : shape.Script) → script_printable s ≡ true → list_free s ≡ true → Reads (printed s) s
 unfolding gap
-reads_back s e f =
+free_reads_back s e f =
     let x = pieces_law s (start_at 0 (printed s)) refl e f in
     record { pieces = x.trees; end = x.end; reads = x.reads; ends = ap gap x.ends; is = ap chains_in x.is ∙ chains_only s }
+
+small : 2 ^ 32 + 1 < tries
+small = omega arith
+
+-- THE LAW: what is printed of a script that can be printed reads as the script.
+pub reads_back : (s : shape.Script) → script_printable s ≡ true → length (printed s) < 2 ^ 32 → Reads (printed s) s
+reads_back s e h = free_reads_back s e (script_short (2 ^ 32) small s e (omega (arith, h)))

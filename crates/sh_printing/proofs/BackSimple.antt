@@ -7,7 +7,7 @@ use Rattle.span_text.specs.Names.{is_digit, continues_name, begins_name, is_name
 use Rattle.span_text.proofs.Bytes.{apart, first_is_name}
 use Rattle.text_grammar.specs.Grammar.{step, rule}
 use Rattle.sh_grammar.specs.Shape as shape
-use Rattle.sh_grammar.specs.Shape.{Value, no_value, value, plain, no_part, part}
+use Rattle.sh_grammar.specs.Shape.{no_value, value}
 use Rattle.sh_grammar.specs.Bytes.{Text, in_word, gap, starts, is_plain, is_meta, is_active, unit_starts, begins_unit}
 use Rattle.sh_grammar.specs.Tokens.{Op, Newline, Open, Word, Io, Less, Great, DGreat, DLess, DLessDash, LessAnd, GreatAnd, code, token, is_token, Key, is_key, opens_compound, is_other_key, name_next, simple_next, compound_next, redirect_next, here_next, copy_next, name_at, assign_at, assign_next, function_next, opens}
 use Rattle.sh_grammar.specs.State.{Sum, text_node, word_node, assign_node}

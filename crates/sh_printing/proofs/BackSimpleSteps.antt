@@ -1,10 +1,9 @@
 -- The steps of the induction over simple commands.
 use Rattle.std.proofs.Common.{◌≡◌, ℕ, true, false, List, [], ◌∷◌, ◌++◌, refl, sym, ap, subst, ◌∙◌, append_assoc}
-use Rattle.std.proofs.lemmas.List.{append-nil}
 use Rattle.text_grammar.specs.Grammar.{star, rule}
 use Rattle.span_text.specs.Names.{is_name}
 use Rattle.sh_grammar.specs.Shape as shape
-use Rattle.sh_grammar.specs.Shape.{simple, assign, no_assign, word, no_word, redirect, no_redirect, command, no_value, value}
+use Rattle.sh_grammar.specs.Shape.{simple, assign, no_assign, word, no_redirect, command}
 use Rattle.sh_grammar.specs.Bytes.{Text, in_word, gap}
 use Rattle.sh_grammar.specs.Tokens.{redirect_next, assign_next}
 use Rattle.sh_grammar.specs.State.{State, Sum, Node, word_node, assign_node, command_node, words_in, assigns_in, redirects_in}
@@ -13,11 +12,11 @@ use Rattle.sh_grammar.specs.Steps.{Known, holds}
 use Rattle.sh_printing.specs.Marks.{End, ended, blank}
 use Rattle.sh_printing.specs.Printing.{parts_text, words_text, assigns_text, value_text}
 use Rattle.sh_printing.proofs.BackSays.{Says, no_more, one_more, saying}
-use Rattle.sh_printing.proofs.BackDue.{Due, named, st, pending_text, bodies_of}
+use Rattle.sh_printing.proofs.BackDue.{st, pending_text}
 use Rattle.sh_printing.proofs.BackBytes.{gap_blank}
 use Rattle.sh_printing.proofs.BackBehind.{parts_on}
 use Rattle.sh_printing.proofs.BackWordFronts.{WordFront}
-use Rattle.sh_printing.proofs.BackNodes.{word_nodes, assign_nodes, redirect_nodes, words_before, words_over_assigns, words_in_redirects, assigns_before, assigns_over_words, assigns_in_redirects, redirects_only, redirects_over_words, redirects_over_assigns}
+use Rattle.sh_printing.proofs.BackNodes.{word_nodes, assign_nodes, redirect_nodes, words_before, words_over_assigns, words_in_redirects, assigns_before, assigns_over_words, assigns_in_redirects, redirects_only, redirects_over_words, redirects_over_assigns, words_only, words_over_redirects, assigns_over_redirects, assigns_in_words, redirects_before, redirects_in_words}
 use Rattle.sh_printing.proofs.BackEnds.{any_end}
 use Rattle.sh_printing.proofs.BackSimple.{SimpleFront, assign_front, word_token, word_no_redirect, carry_redirect, carry_assign}
 use Rattle.sh_printing.proofs.BackCommands.{by_prefix, by_suffix, Wording, prefix_assign, called_says, prefixed_says, simple_of}
@@ -32,6 +31,15 @@ simple_nodes vs ws rs =
     let a : assigns_in (assign_nodes vs ++ z) ≡ vs = assigns_before vs z (assigns_over_words ws (redirect_nodes rs) ∙ assigns_in_redirects rs) in
     let w : words_in (assign_nodes vs ++ z) ≡ ws = words_over_assigns vs z ∙ words_before ws (redirect_nodes rs) (words_in_redirects rs) in
     let r : redirects_in (assign_nodes vs ++ z) ≡ rs = redirects_over_assigns vs z ∙ redirects_over_words ws (redirect_nodes rs) ∙ redirects_only rs in
+    rw (a, w, r) refl
+
+-- those of words behind redirections
+turned_nodes : (ws : shape.Words) (rs : shape.Redirects) → simple_of (redirect_nodes rs ++ word_nodes ws) ≡ command (simple no_assign ws) rs
+turned_nodes ws rs =
+    let z = word_nodes ws in
+    let a : assigns_in (redirect_nodes rs ++ z) ≡ no_assign = assigns_over_redirects rs z ∙ assigns_in_words ws in
+    let w : words_in (redirect_nodes rs ++ z) ≡ ws = words_over_redirects rs z ∙ words_only ws in
+    let r : redirects_in (redirect_nodes rs ++ z) ≡ rs = redirects_before rs z (redirects_in_words ws) in
     rw (a, w, r) refl
 
 -- a word in front of others, in a repetition
@@ -83,8 +91,8 @@ suffix_stops k d q ps found end t =
 
 -- its name first
 pub name_first : (k : Known) (d : ℕ) (q : List Sum) (f : List Text) (bytes v : Text) (m : State) (end : End) (t : Text) (w : shape.Parts) (ws : shape.Words) (rs : shape.Redirects) (all : List Text) → gap bytes ≡ v → SimpleFront v → redirect_next v ≡ false → assign_next v ≡ false →
-    Says k (rule word_rule) (st d q (clean f) bytes) m (word_node w ∷ []) → On k (star suffix_begins (rule suffix_item)) d q m end t (word_nodes ws ++ redirect_nodes rs) all →
-    On k (rule command_rule) d q (st d q (clean f) bytes) end t (command_node (command (simple no_assign (word w ws)) rs) ∷ []) all
+    Says k (rule word_rule) (st d q (clean f) bytes) m (word_node w ∷ []) → On k (star suffix_begins (rule suffix_item)) d q m (ended end) t (word_nodes ws ++ redirect_nodes rs) all →
+    On k (rule command_rule) d q (st d q (clean f) bytes) (ended end) t (command_node (command (simple no_assign (word w ws)) rs) ∷ []) all
 name_first k d q f bytes v m end t w ws rs all e s n o a b =
     record {
       owing = b.owing;
@@ -96,8 +104,8 @@ name_first k d q f bytes v m end t w ws rs all e s n o a b =
 
 -- an assignment first
 pub assign_first : (k : Known) (d : ℕ) (q : List Sum) (f : List Text) (bytes n u : Text) (m o : State) (end : End) (t : Text) (v : shape.Value) (vs : shape.Assigns) (ws : shape.Words) (rs : shape.Redirects) (all : List Text) (ys zs : List Node) → is_name n ≡ true → gap bytes ≡ n ++ 61 ∷ u → ys ++ zs ≡ assign_nodes vs ++ (word_nodes ws ++ redirect_nodes rs) →
-    Says k (rule assign_rule) (st d q (clean f) bytes) m (assign_node n v ∷ []) → Says k (star prefix_begins (rule prefix_item)) m o ys → On k (star suffix_begins (rule suffix_item)) d q o end t zs all →
-    On k (rule command_rule) d q (st d q (clean f) bytes) end t (command_node (command (simple (assign n v vs) ws) rs) ∷ []) all
+    Says k (rule assign_rule) (st d q (clean f) bytes) m (assign_node n v ∷ []) → Says k (star prefix_begins (rule prefix_item)) m o ys → On k (star suffix_begins (rule suffix_item)) d q o (ended end) t zs all →
+    On k (rule command_rule) d q (st d q (clean f) bytes) (ended end) t (command_node (command (simple (assign n v vs) ws) rs) ∷ []) all
 assign_first k d q f bytes n u m o end t v vs ws rs all ys zs nm e is a b c =
     let x = n ++ 61 ∷ u in
     let fr = assign_front n u nm in
@@ -112,16 +120,17 @@ assign_first k d q f bytes n u m o end t v vs ws rs all ys zs nm e is a b c =
           (prefix_assign k (st d q (clean f) bytes) m (assign_node n v ∷ []) (carry_redirect bytes x i ∙ fr.no_redirect) a) b c.says);
     }
 
--- a redirection first
-pub redirect_first : (k : Known) (d : ℕ) (q : List Sum) (f : List Text) (bytes v : Text) (end : End) (t : Text) (rs : shape.Redirects) (all : List Text) → gap bytes ≡ v → SimpleFront v → redirect_next bytes ≡ true →
-    On k (star prefix_begins (rule prefix_item)) d q (st d q (clean f) bytes) end t (redirect_nodes rs) all → On k (rule command_rule) d q (st d q (clean f) bytes) end t (command_node (command (simple no_assign no_word) rs) ∷ []) all
-redirect_first k d q f bytes v end t rs all e s n a =
-    let x = turn_of k prefix_begins prefix_item (st d q (clean f) bytes) _ (redirect_nodes rs) (by_prefix.begins (st d q (clean f) bytes) n) a.says in
+-- a redirection first, and words behind all of them or none
+pub redirect_first : (k : Known) (d : ℕ) (q : List Sum) (f : List Text) (bytes v : Text) (m : State) (end : End) (t : Text) (ws : shape.Words) (rs : shape.Redirects) (all : List Text) → gap bytes ≡ v → SimpleFront v → redirect_next bytes ≡ true →
+    Says k (star prefix_begins (rule prefix_item)) (st d q (clean f) bytes) m (redirect_nodes rs) → On k (star suffix_begins (rule suffix_item)) d q m (ended end) t (word_nodes ws) all →
+    On k (rule command_rule) d q (st d q (clean f) bytes) (ended end) t (command_node (command (simple no_assign ws) rs) ∷ []) all
+redirect_first k d q f bytes v m end t ws rs all e s n a b =
+    let x = turn_of k prefix_begins prefix_item (st d q (clean f) bytes) _ (redirect_nodes rs) (by_prefix.begins (st d q (clean f) bytes) n) a in
     record {
-      owing = a.owing;
-      found = a.found;
-      is_all = a.is_all;
+      owing = b.owing;
+      found = b.found;
+      is_all = b.is_all;
       says =
-          saying (ap (λ (z : List Node). command_node (simple_of z) ∷ []) (ap (λ (z : List Node). x.ones ++ z) (append-nil x.others) ∙ x.is) ∙ ap (λ (z : shape.Command). command_node z ∷ []) (simple_nodes no_assign no_word rs))
-          (prefixed_says k d q (clean f) bytes v x.middle _ _ x.ones x.others [] e s (rw n refl) x.one x.rest (suffix_stops k d q a.owing a.found end t));
+          saying (ap (λ (z : List Node). command_node (simple_of z) ∷ []) (sym (append_assoc x.ones x.others (word_nodes ws)) ∙ ap (λ (z : List Node). z ++ word_nodes ws) x.is) ∙ ap (λ (z : shape.Command). command_node z ∷ []) (turned_nodes ws rs))
+          (prefixed_says k d q (clean f) bytes v x.middle _ _ x.ones x.others (word_nodes ws) e s (rw n refl) x.one x.rest b.says);
     }

@@ -5,11 +5,11 @@ use Rattle.std.proofs.lemmas.Bool.{true≢false}
 use Rattle.std.proofs.lemmas.List.{append-nil}
 use Rattle.text_grammar.specs.Grammar.{star, rule, pass, choose, seq}
 use Rattle.sh_grammar.specs.Shape as shape
-use Rattle.sh_grammar.specs.Shape.{plain, exact, double, tilde, param, subst as listing, arith as sum, no_part, part}
+use Rattle.sh_grammar.specs.Shape.{plain, exact, double, tilde, subst as listing, part}
 use Rattle.sh_grammar.specs.Bytes.{Text, Context, in_word, in_double, has_single, has_double, gap, starts}
-use Rattle.sh_grammar.specs.Tokens.{Newline, Open, Close, Word, token, is_token, pipeline_next}
+use Rattle.sh_grammar.specs.Tokens.{Newline, is_token, pipeline_next}
 use Rattle.sh_grammar.specs.State.{Sum, part_node, word_node, script_node}
-use Rattle.sh_grammar.specs.Table.{Gram, separates, pipeline_begins, expansion, lines, chain, list, list_more, maybe_list, word, word_parts, value}
+use Rattle.sh_grammar.specs.Table.{separates, pipeline_begins, expansion, lines, chain, list, list_more, maybe_list, word, word_parts, value}
 use Rattle.sh_grammar.specs.Table as table
 use Rattle.sh_grammar.specs.Steps.{Known, limit, holds}
 use Rattle.sh_printing.specs.Marks as marks
@@ -25,8 +25,8 @@ use Rattle.sh_printing.proofs.BackParams.{listing_says}
 use Rattle.sh_printing.proofs.BackTokens.{Outside, close_token}
 use Rattle.sh_printing.proofs.BackFronts.{dollar_front, Quoted, by_quotes, by_backslash, quoted_by, quotes_text, part_marked}
 use Rattle.sh_printing.proofs.BackBehind.{Closes, parts_on, parts_split, parts_free as parts_unjoined, plain_stops, plain_facts, part_unit}
-use Rattle.sh_printing.proofs.BackWords.{Parts, no_parts, one_part, first_says, tilde_says, tilde_back}
-use Rattle.sh_printing.proofs.BackWordFronts.{plain_no_tilde, marked_no_tilde}
+use Rattle.sh_printing.proofs.BackWords.{Parts, one_part, first_says, tilde_says, tilde_back}
+use Rattle.sh_printing.proofs.BackWordFronts.{marked_no_tilde}
 use Rattle.sh_printing.proofs.BackLines.{clean, Goes, lines_say, no_lines_say}
 use Rattle.sh_printing.proofs.BackLists.{carry_pipeline}
 use Rattle.sh_printing.proofs.BackCommands.{ListEnd}

@@ -1,429 +1,88 @@
 -- What is printed of a node reads as the node: the induction over a script.
 use Rattle.std.proofs.Common.{◌≡◌, ℕ, zero, suc, ◌+◌, ◌≤◌, Bool, true, false, List, [], ◌∷◌, ◌++◌, refl, sym, ap, subst, ◌∙◌, append_assoc, arith}
-use Rattle.std.specs.Prelude.{◌||◌, ◌&&◌, not, nat_lt, codes}
+use Rattle.std.specs.Prelude.{◌&&◌, not, nat_lt, codes, if◌then◌else◌}
 use Rattle.std.proofs.lemmas.Bool.{true≢false, false≢true}
 use Rattle.std.proofs.lemmas.List.{append-nil}
 use Rattle.text_grammar.specs.Grammar.{star, rule}
 use Rattle.span_text.specs.Names.{is_name}
 use Rattle.sh_grammar.specs.Shape as shape
 use Rattle.sh_grammar.specs.Shape.{plain, exact, double, tilde, param, subst as listing, arith as sum, no_part, part, as_is, length_of, fill, trim, no_word, word, no_value, value, no_assign, assign, no_redirect, redirect, command, simple, group, subshell, branching, loop, walk, cases, function, no_branch, branch, no_else, otherwise, parameters, listed, no_item, item, no_stage, stage, pipeline, no_link, and_link, or_link, chain, no_chain, next_chain}
-use Rattle.sh_grammar.specs.Bytes.{Text, Context, in_word, in_double, in_body, has_double, fill_context, trim_context, gap}
-use Rattle.sh_grammar.specs.Tokens.{Newline, Word, Open, is_token, key_text, Key, tilde_next}
-use Rattle.sh_grammar.specs.State.{State, Sum, Node, part_node, word_node, assign_node, command_node, kind_node, pipeline_node, chain_node, script_node}
-use Rattle.sh_grammar.specs.Table.{Test, Rule, expansion, word_parts, prefix_begins, prefix_item}
+use Rattle.sh_grammar.specs.Bytes.{Text, in_word, gap}
+use Rattle.sh_grammar.specs.Tokens.{Newline, Word, Pipe, Bang, Elif}
+use Rattle.sh_grammar.specs.State.{State, Sum, command_node, kind_node, pipeline_node, chain_node}
 use Rattle.sh_grammar.specs.Table as table
 use Rattle.sh_grammar.specs.Steps.{limit}
 use Rattle.sh_grammar.proofs.Known.{known_in}
 use Rattle.sh_printing.specs.Marks as marks
-use Rattle.sh_printing.specs.Marks.{End, blank, ended, param_text}
-use Rattle.sh_printing.specs.Delimiters.{has_line, delimiter}
-use Rattle.sh_printing.specs.Spellable.{begins_with, param_fits, sum_fits}
-use Rattle.sh_printing.specs.Printing.{part_text, parts_text, words_text, value_text, assigns_text, redirects_text, command_text, kind_text, list_text, continued, behind_opening, part_opens, parts_open, words_open, op_opens}
-use Rattle.sh_printing.specs.Printable.{part_fits, parts_fit, operand_checks, word_fits, words_fit, patterns_fit, value_fits, assigns_fit, redirects_fit, command_fits, kind_fits, list_fits, plain_fits, reads_tilde, behind_tilde, has_part, is_length, changes_mark, has_redirect, fd_fits, is_copied_word, literal_body, ends_line, plain_begins, is_assignment}
-use Rattle.sh_printing.proofs.BackSays.{Says, ◌then◌, saying, at_state, to_state}
-use Rattle.sh_printing.proofs.BackDue.{Due, named, named_after, st, after, pending_text, Covers, covers_first, covers_after, covers_next, owing_more}
-use Rattle.sh_printing.proofs.BackBytes.{both, isnt, three, four, five}
-use Rattle.sh_printing.proofs.BackParams.{Ends}
+use Rattle.sh_printing.specs.Marks.{End, blank, ended}
+use Rattle.sh_printing.specs.Printing.{parts_text, words_text, redirects_text, command_text, kind_text, list_text, parts_open, stages_text, pipeline_text, links_text, chain_text, stage_end, link_end, branches_text, otherwise_text, patterns_text, items_text}
+use Rattle.sh_printing.specs.Printable.{parts_fit, word_fits, words_fit, patterns_fit, redirects_fit, command_fits, kind_fits, list_fits, has_part, has_redirect, plain_begins, stages_fit, pipeline_fits, links_fit, chain_fits, is_compound, has_chain, branches_fit, otherwise_fits, items_fit}
+use Rattle.sh_printing.proofs.BackSays.{Says, ◌then◌, saying, to_state}
+use Rattle.sh_printing.proofs.BackDue.{Due, st, pending_text, Covers, covers_first, Pending, bodies_of}
+use Rattle.sh_printing.proofs.BackBytes.{both, isnt, three, four, five, gap_blank}
 use Rattle.sh_printing.proofs.BackTokens.{Outside}
-use Rattle.sh_printing.proofs.BackBehind.{Closes, parts_on, word_closes, double_closes, fill_closes, trim_closes, body_closes, name_ends}
-use Rattle.sh_printing.proofs.BackBraces.{bare_back, length_says, fill_back, trim_back}
-use Rattle.sh_printing.proofs.BackWords.{Parts, no_parts}
-use Rattle.sh_printing.proofs.BackWordFronts.{word_begins, plain_no_tilde}
-use Rattle.sh_printing.proofs.BackRedirects.{read_says, write_says, append_says, unit_aimed, op_text}
-use Rattle.sh_printing.proofs.BackLines.{clean, Goes}
-use Rattle.sh_printing.proofs.BackCommands.{Redirecting, Wording}
-use Rattle.sh_printing.proofs.BackLists.{due, On, covers_on}
-use Rattle.sh_printing.proofs.BackNamed.{body_of, part_bodies, parts_bodies, words_bodies, value_bodies, assigns_bodies, redirects_bodies, part_free, parts_free, words_free, value_free, assigns_free, redirects_free, part_closed, parts_closed, list_bodies, list_free}
-use Rattle.sh_printing.proofs.BackNodes.{part_nodes, parts_back, word_nodes, assign_nodes, redirect_nodes}
-use Rattle.sh_printing.proofs.BackSums.{opening_of, Operand, Operands, sum_back}
-use Rattle.sh_printing.proofs.BackKept.{body_kept}
-use Rattle.sh_printing.proofs.BackExpand.{body_says, expanded_back, body_lines}
-use Rattle.sh_printing.proofs.BackSteps.{after_clean, plain_step, exact_step, double_step, expansion_step, parts_step, WordTo, word_step, tilde_step, marked_tilde, word_node_of, value_node_of, opened, listing_step}
-use Rattle.sh_printing.proofs.BackBegins.{word_first, words_outside, assigns_outside, redirects_outside}
-use Rattle.sh_printing.proofs.BackHeads.{list_no_line}
-use Rattle.sh_printing.proofs.BackCommands.{close_end}
-use Rattle.sh_printing.proofs.BackCommandSteps.{literal_target, expanded_target, word_owed, copied_target, copied_closed, redirects_step, redirects_on, no_redirects, StartsAs, starts_same}
-use Rattle.sh_printing.proofs.BackSimpleSteps.{words_step, assigns_step}
-use Rattle.sh_grammar.specs.Tokens.{Pipe, Bang}
-use Rattle.sh_grammar.specs.Table.{suffix_begins, suffix_item}
-use Rattle.sh_printing.specs.Printing.{stages_text, pipeline_text, links_text, chain_text, stage_end, link_end}
-use Rattle.sh_printing.specs.Printable.{stages_fit, pipeline_fits, links_fit, chain_fits, is_reserved_word}
-use Rattle.sh_printing.proofs.BackDue.{Pending, bodies_of}
-use Rattle.sh_printing.proofs.BackBytes.{gap_blank}
-use Rattle.sh_printing.proofs.BackNamed.{command_bodies, kind_bodies, stages_bodies, pipeline_bodies, links_bodies, chain_bodies, command_free, kind_free, stages_free, pipeline_free, links_free, chain_free, begins_reserved}
-use Rattle.sh_printing.proofs.BackNodes.{stage_nodes, link_nodes, chain_nodes}
-use Rattle.sh_printing.proofs.BackEnds.{marks_pipe, marks_link}
-use Rattle.sh_printing.proofs.BackSimple.{carry_key, word_no_redirect, word_token, redirect_simple}
-use Rattle.sh_printing.proofs.BackFirst.{first_front, first_simple}
-use Rattle.sh_printing.proofs.BackCommands.{by_suffix, by_prefix, suffix_words}
-use Rattle.sh_printing.proofs.BackLists.{MoreTo, carry_pipeline, no_stages, pipe_says, one_stage, no_links, and_says, or_says, one_and, one_or, separator_says, end_of_list, next_of_list}
-use Rattle.sh_printing.proofs.BackSteps.{no_chains, some_chains}
-use Rattle.sh_printing.proofs.BackBegins.{words_open as words_no_open, redirects_no_open, redirect_at}
-use Rattle.sh_printing.proofs.BackHeads.{PipelineFront, simple_facts, word_split, stages_begin, stages_split, pipeline_begins, chain_split, list_begins, list_split}
-use Rattle.sh_printing.proofs.BackSimpleSteps.{name_first, redirect_first, assign_first, prefix_stops, suffix_stops}
-use Rattle.sh_grammar.specs.Tokens.{Do, Done, OpenBrace, CloseBrace, If, For, While, Until, Case}
-use Rattle.sh_printing.specs.Printable.{is_compound, has_chain}
-use Rattle.sh_printing.proofs.BackSimple.{carry_token}
+use Rattle.sh_printing.proofs.BackBehind.{parts_on}
 use Rattle.sh_printing.proofs.BackBraces.{right_four}
-use Rattle.sh_printing.proofs.BackCommands.{by_redirect, key_end, key_compound}
-use Rattle.sh_printing.proofs.BackCompound.{group_says, subshell_says}
-use Rattle.sh_printing.proofs.BackLoops.{function_says}
-use Rattle.sh_printing.proofs.BackSimple.{carry_keys, name_word}
-use Rattle.sh_printing.proofs.BackHeads.{function_facts, function_split, function_keys, command_begins, assign_split}
-use Rattle.sh_grammar.specs.Tokens.{Then, Elif, Else, Fi}
-use Rattle.sh_printing.specs.Printing.{branches_text, otherwise_text}
-use Rattle.sh_printing.specs.Printable.{branches_fit, otherwise_fits}
-use Rattle.sh_printing.proofs.BackNamed.{branches_bodies, otherwise_bodies, branches_free, otherwise_free}
-use Rattle.sh_printing.proofs.BackCompound.{Elifs, ElsePart, no_elif, no_else_says}
-use Rattle.sh_grammar.specs.Tokens.{Esac}
-use Rattle.sh_printing.specs.Printing.{patterns_text, items_text}
-use Rattle.sh_printing.specs.Printable.{items_fit}
-use Rattle.sh_printing.proofs.BackNamed.{items_bodies, items_free}
-use Rattle.sh_printing.proofs.BackCommands.{semis_end}
-use Rattle.sh_printing.proofs.BackLoops.{ItemsTo, PatternsTo, one_item, no_patterns, one_pattern}
-use Rattle.sh_printing.proofs.BackSteps.{maybe_node_of}
-use Rattle.sh_printing.proofs.BackTreeSteps.{Maybe, bang_pipeline_says, brace_end, branch_says, case_law, chain_says, compound_case, compound_part, copied_covers, covers_alone, covers_settled, deeper, do_end, done_end, elif_law, elif_list_end, elifs_all, else_all, else_list_end, else_no_elif, else_some, fi_end, fi_no_else, for_law, here_covers, here_step, if_law, items_all, items_no_line, items_none, known_bodies, link_pipe, list_from, listed_stops, loop_says, more_all, no_branches, nothing_fits, on_all, on_at, operand_wrap, pattern_step, patterns_outside, plain_pipeline, right_six, then_end, walk_listed, walk_plain}
+use Rattle.sh_printing.proofs.BackWordFronts.{word_begins}
+use Rattle.sh_printing.proofs.BackLines.{clean}
+use Rattle.sh_printing.proofs.BackCommands.{close_end, by_redirect, semis_end}
+use Rattle.sh_printing.proofs.BackLists.{due, On, covers_on, MoreTo, carry_pipeline, no_stages, pipe_says, one_stage, no_links, and_says, or_says, one_and, one_or, separator_says, end_of_list, next_of_list}
+use Rattle.sh_printing.proofs.BackNamed.{parts_bodies, words_bodies, redirects_bodies, parts_free, words_free, redirects_free, parts_closed, list_bodies, list_free, command_bodies, kind_bodies, stages_bodies, pipeline_bodies, links_bodies, chain_bodies, command_free, kind_free, stages_free, pipeline_free, links_free, chain_free, branches_bodies, otherwise_bodies, branches_free, otherwise_free, items_bodies, items_free}
+use Rattle.sh_printing.proofs.BackNodes.{word_nodes, stage_nodes, link_nodes, chain_nodes}
+use Rattle.sh_printing.proofs.BackSteps.{after_clean, word_node_of, no_chains, some_chains, maybe_node_of}
+use Rattle.sh_printing.proofs.BackBegins.{words_outside, redirects_outside, ended_outside}
+use Rattle.sh_printing.proofs.BackHeads.{list_no_line, PipelineFront, stages_begin, stages_split, pipeline_begins, chain_split, list_begins, list_split, function_facts, function_split, function_keys, command_begins}
+use Rattle.sh_printing.proofs.BackCommandSteps.{starts_same, ended_lasts}
+use Rattle.sh_printing.proofs.BackTreeSteps.{compound_bodies, Maybe, bang_pipeline_says, brace_end, branch_says, case_law, chain_says, compound_case, compound_part, deeper, do_end, done_end, elif_law, elif_list_end, elifs_all, else_all, else_list_end, else_no_elif, else_some, fi_end, fi_no_else, for_law, if_law, items_all, items_no_line, items_none, link_pipe, list_from, listed_stops, loop_says, more_all, no_branches, patterns_outside, plain_pipeline, right_six, then_end, walk_listed, walk_plain}
+use Rattle.sh_printing.proofs.BackEnds.{marks_pipe, marks_link}
+use Rattle.sh_printing.proofs.BackSimple.{carry_key, carry_keys, name_word}
+use Rattle.sh_printing.proofs.BackCompound.{group_says, subshell_says, Elifs, ElsePart, no_elif, no_else_says}
+use Rattle.sh_printing.proofs.BackLoops.{function_says, ItemsTo, one_item}
+use Rattle.sh_printing.proofs.BackInner.{PartLists, PartsLists, WordsLists, ValueLists, AssignsLists, RedirectsLists}
+use Rattle.sh_printing.proofs.BackWordTree.{word_law, words_law, pattern_law, patterns_law}
+use Rattle.sh_printing.proofs.BackSimpleTree.{redirects_law, simple_law}
 
 mutual
-  -- a parameter and its operator
-  pub param_back : (n : ℕ) (ds : List Text) (i : Bool) (d : ℕ) (q : List Sum) (c : Context) (g : Due) (behind : shape.Parts) (p : shape.Param) (o : shape.ParamOp) (z : Text) → limit ≤ n + d → d ≤ limit → part_fits i d c behind (param p o) ≡ true → part_free (param p o) ≡ true → Covers (known_in n ds) g (part_bodies (param p o)) → (continued behind ≡ false → Ends z) →
-      Says (known_in n ds) (rule (expansion c)) (st d q g (part_text true c (opening_of g) (continued behind) (param p o) ++ z)) (st d q (after (part_opens (param p o)) g (part_bodies (param p o))) z) (part_node (param p o) ∷ [])
-  param_back n ds i d q c g behind p as_is z h D e f cov x = bare_back (known_in n ds) c d q g (continued behind) p z e x
-  param_back n ds i d q c g behind p length_of z h D e f cov x = let y = both (nat_lt d limit) (param_fits p) e in length_says (known_in n ds) c d q g p z y.0 y.1
-  param_back n ds i d q c g behind p (fill t colon w) z h D e f cov x =
-      let y = four (nat_lt d limit) (param_fits p) (not (is_length p t colon w)) (parts_fit i (suc d) (fill_context c) w) e in
-      fill_back (known_in n ds) i c d q g (after (parts_open w) g (parts_bodies w)) (opening_of g) (continued behind) p t colon w z (part_nodes w) y.0 y.1 (isnt (is_length p t colon w) y.2) y.3 (parts_back w)
-      (parts_law n ds i (suc d) q (fill_context c) g w (125 ∷ z) (omega arith) (deeper d y.0) y.3 f cov (fill_closes c z))
-  param_back n ds i d q c g behind p (trim suffix longest w) z h D e f cov x =
-      let y = four (nat_lt d limit) (param_fits p) (not (changes_mark p suffix longest w)) (parts_fit i (suc d) (trim_context c) w) e in
-      trim_back (known_in n ds) i c d q g (after (parts_open w) g (parts_bodies w)) (opening_of g) (continued behind) p suffix longest w z (part_nodes w) y.0 y.1 (isnt (changes_mark p suffix longest w) y.2) y.3 (parts_back w)
-      (parts_law n ds i (suc d) q (trim_context c) g w (125 ∷ z) (omega arith) (deeper d y.0) y.3 f cov (trim_closes c z))
+  -- the lists in words
+  part_lists : (n : ℕ) (ds : List Text) (i : Bool) (p : shape.Part) → PartLists n ds i p
+  part_lists n ds i (plain text) = tt
+  part_lists n ds i (exact text) = tt
+  part_lists n ds i (double ps) = parts_lists n ds i ps
+  part_lists n ds i tilde = tt
+  part_lists n ds i (param p as_is) = tt
+  part_lists n ds i (param p length_of) = tt
+  part_lists n ds i (param p (fill t c w)) = parts_lists n ds i w
+  part_lists n ds i (param p (trim s l w)) = parts_lists n ds i w
+  part_lists n ds i (listing s) = λ d q f bytes t h D e r cov l g. maybe_law n ds i d q f s bytes t h D e r cov l g
+  part_lists n ds i (sum e ws) = words_lists n ds i ws
 
-  -- a part before others
-  pub part_back : (n : ℕ) (ds : List Text) (i : Bool) (d : ℕ) (q : List Sum) (c : Context) (g : Due) (ps : shape.Parts) (p : shape.Part) (t : Text) → limit ≤ n + d → d ≤ limit → part_fits i d c ps p ≡ true → parts_fit i d c ps ≡ true → part_free p ≡ true → Covers (known_in n ds) g (part_bodies p) → Closes c t →
-      Says (known_in n ds) (rule (table.part c)) (st d q g (part_text true c (opening_of g) (continued ps) p ++ parts_on c (behind_opening (part_opens p) (opening_of g)) ps t)) (st d q (after (part_opens p) g (part_bodies p)) (parts_on c (behind_opening (part_opens p) (opening_of g)) ps t)) (part_node p ∷ [])
-  part_back n ds i d q c g ps (plain text) t h D e r f cov s = plain_step (known_in n ds) c d q g i text ps (opening_of g) t e r s
-  part_back n ds i d q c g ps (exact text) t h D e r f cov s = exact_step (known_in n ds) c d q g i text (parts_on c (opening_of g) ps t) e
-  part_back n ds i d q c g ps (double qs) t h D e r f cov s =
-      let x = both (has_double c) (parts_fit i d in_double qs) e in
-      let z = parts_on c (behind_opening (parts_open qs) (opening_of g)) ps t in
-      double_step (known_in n ds) c d q g (after (parts_open qs) g (parts_bodies qs)) qs (opening_of g) z x.0 (parts_law n ds i d q in_double g qs (34 ∷ z) h D x.1 f cov (double_closes z))
-  part_back n ds i d q c g ps tilde t h D e r f cov s = absurd (false≢true e)
-  part_back n ds i d q c g ps (param p o) t h D e r f cov s =
-      let z = parts_on c (behind_opening (op_opens o) (opening_of g)) ps t in
-      expansion_step (known_in n ds) c d q g (after (op_opens o) g (part_bodies (param p o))) i (opening_of g) ps (param p o) z refl e
-      (param_back n ds i d q c g ps p o z h D e f cov (λ y. name_ends i d c (behind_opening (op_opens o) (opening_of g)) ps t r y s))
-  part_back n ds i d q c g ps (listing x) t h D e r f cov s =
-      let y = both (nat_lt d limit) (list_fits i (suc d) x) e in
-      let z = parts_on c blank ps t in
-      let l = opened (known_in n ds) (suc d) q g (list_text true x ++ 41 ∷ z) (list_no_line i (suc d) x (41 ∷ z) y.1 f (close_end z).no_line) in
-      expansion_step (known_in n ds) c d q g (after true g (list_bodies x)) i (opening_of g) ps (listing x) z refl e
-      (listing_step (known_in n ds) c d q g x z y.0 l (maybe_law n ds i (suc d) q (named g) x l.ahead (41 ∷ z) (omega arith) (deeper d y.0) y.1 f (covers_settled (known_in n ds) g (list_bodies x) cov) (close_end z) l.same))
-  part_back n ds i d q c g ps (sum x ws) t h D e r f cov s =
-      let y = both (nat_lt d limit) (sum_fits (operand_checks i ws) (suc d) x) e in
-      let z = parts_on c (behind_opening (words_open ws) (opening_of g)) ps t in
-      expansion_step (known_in n ds) c d q g (after (words_open ws) g (words_bodies ws)) i (opening_of g) ps (sum x ws) z refl e
-      (sum_back (known_in n ds) n i c d q g (continued ps) x ws z h y.0 y.1 (operands_law n ds i ws f) cov)
+  parts_lists : (n : ℕ) (ds : List Text) (i : Bool) (ps : shape.Parts) → PartsLists n ds i ps
+  parts_lists n ds i no_part = tt
+  parts_lists n ds i (part p ps) = (part_lists n ds i p, parts_lists n ds i ps)
 
-  pub parts_law : (n : ℕ) (ds : List Text) (i : Bool) (d : ℕ) (q : List Sum) (c : Context) (g : Due) (ps : shape.Parts) (t : Text) → limit ≤ n + d → d ≤ limit → parts_fit i d c ps ≡ true → parts_free ps ≡ true → Covers (known_in n ds) g (parts_bodies ps) → Closes c t →
-      Parts (known_in n ds) c d q g (after (parts_open ps) g (parts_bodies ps)) (parts_on c (opening_of g) ps t) t (part_nodes ps)
-  parts_law n ds i d q c g no_part t h D e f cov s = no_parts (known_in n ds) c d q g t s
-  parts_law n ds i d q c g (part p ps) t h D e f cov s =
-      let x = both (part_fits i d c ps p) (parts_fit i d c ps) e in
-      let y = both (part_free p) (parts_free ps) f in
-      parts_step (known_in n ds) c d q g i p ps t x.0 x.1 s
-      (part_back n ds i d q c g ps p t h D x.0 x.1 y.0 (covers_first (known_in n ds) g (part_bodies p) (parts_bodies ps) cov) s)
-      (parts_law n ds i d q c (after (part_opens p) g (part_bodies p)) ps t h D x.1 y.1 (covers_after (known_in n ds) (part_opens p) g (part_bodies p) (parts_bodies ps) (part_closed p) cov) s)
+  words_lists : (n : ℕ) (ds : List Text) (i : Bool) (ws : shape.Words) → WordsLists n ds i ws
+  words_lists n ds i no_word = tt
+  words_lists n ds i (word w ws) = (parts_lists n ds i w, words_lists n ds i ws)
 
-  -- an operand of an arithmetic expansion
-  pub operand_law : (n : ℕ) (ds : List Text) (i : Bool) (w : shape.Parts) → parts_free w ≡ true → Operand (known_in n ds) n i w
-  operand_law n ds i no_part f d q g t h D e x cov = absurd (false≢true e)
-  operand_law n ds i (part (param p o) no_part) f d q g t h D e x cov =
-      let y = (both (part_free (param p o)) true f).0 in
-      operand_wrap (known_in n ds) d q g (param p o) t (param_back n ds i d q in_double g no_part p o t h D e y (covers_alone (known_in n ds) g (param p o) cov) (λ z. x))
-  operand_law n ds i (part (listing s) no_part) f d q g t h D e x cov =
-      let u = (both (part_free (listing s)) true f).0 in
-      let y = both (nat_lt d limit) (list_fits i (suc d) s) e in
-      let l = opened (known_in n ds) (suc d) q g (list_text true s ++ 41 ∷ t) (list_no_line i (suc d) s (41 ∷ t) y.1 u (close_end t).no_line) in
-      operand_wrap (known_in n ds) d q g (listing s) t
-      (listing_step (known_in n ds) in_double d q g s t y.0 l (maybe_law n ds i (suc d) q (named g) s l.ahead (41 ∷ t) (omega arith) (deeper d y.0) y.1 u (covers_settled (known_in n ds) g (list_bodies s) (covers_alone (known_in n ds) g (listing s) cov)) (close_end t) l.same))
-  operand_law n ds i (part (sum a ws) no_part) f d q g t h D e x cov =
-      let u = (both (part_free (sum a ws)) true f).0 in
-      let y = both (nat_lt d limit) (sum_fits (operand_checks i ws) (suc d) a) e in
-      operand_wrap (known_in n ds) d q g (sum a ws) t (sum_back (known_in n ds) n i in_double d q g false a ws t h y.0 y.1 (operands_law n ds i ws u) (covers_alone (known_in n ds) g (sum a ws) cov))
-  operand_law n ds i (part (plain text) ps) f d q g t h D e x cov = absurd (false≢true e)
-  operand_law n ds i (part (exact text) ps) f d q g t h D e x cov = absurd (false≢true e)
-  operand_law n ds i (part (double qs) ps) f d q g t h D e x cov = absurd (false≢true e)
-  operand_law n ds i (part tilde ps) f d q g t h D e x cov = absurd (false≢true e)
-  operand_law n ds i (part (param p o) (part r rs)) f d q g t h D e x cov = absurd (false≢true e)
-  operand_law n ds i (part (listing s) (part r rs)) f d q g t h D e x cov = absurd (false≢true e)
-  operand_law n ds i (part (sum a ws) (part r rs)) f d q g t h D e x cov = absurd (false≢true e)
+  value_lists : (n : ℕ) (ds : List Text) (i : Bool) (v : shape.Value) → ValueLists n ds i v
+  value_lists n ds i no_value = tt
+  value_lists n ds i (value w) = parts_lists n ds i w
 
-  pub operands_law : (n : ℕ) (ds : List Text) (i : Bool) (ws : shape.Words) → words_free ws ≡ true → Operands (known_in n ds) n i ws
-  operands_law n ds i no_word f = tt
-  operands_law n ds i (word w ws) f = let y = both (parts_free w) (words_free ws) f in (operand_law n ds i w y.0, operands_law n ds i ws y.1)
+  assigns_lists : (n : ℕ) (ds : List Text) (i : Bool) (vs : shape.Assigns) → AssignsLists n ds i vs
+  assigns_lists n ds i no_assign = tt
+  assigns_lists n ds i (assign name v vs) = (value_lists n ds i v, assigns_lists n ds i vs)
 
-  -- the parts of a word or a value
-  pub word_law : (n : ℕ) (ds : List Text) (i : Bool) (d : ℕ) (q : List Sum) (g : Due) (spaced : Bool) (w : shape.Parts) (t : Text) → limit ≤ n + d → d ≤ limit → word_fits i d spaced w ≡ true → parts_free w ≡ true → Covers (known_in n ds) g (parts_bodies w) → Outside t → WordTo (known_in n ds) d q g w t
-  word_law n ds i d q g spaced no_part t h D e f cov o = absurd (false≢true e)
-  word_law n ds i d q g spaced (part tilde ps) t h D e f cov o =
-      let x = both (behind_tilde ps) (parts_fit i d in_word ps) e in
-      tilde_step (known_in n ds) d q g i ps t x.0 x.1 o (parts_law n ds i d q in_word g ps t h D x.1 f cov (word_closes t o))
-  word_law n ds i d q g spaced (part (plain text) ps) t h D e f cov o =
-      let x = four (not (spaced && begins_with 35 text)) (not (reads_tilde text ps)) (plain_fits in_word ps text) (parts_fit i d in_word ps) e in
-      word_step (known_in n ds) d q g (plain text) ps t (plain_no_tilde i d (opening_of g) text ps t (isnt (reads_tilde text ps) x.1) x.2 x.3 o) (plain_step (known_in n ds) in_word d q g i text ps (opening_of g) t x.2 x.3 (word_closes t o)) (parts_law n ds i d q in_word g ps t h D x.3 f cov (word_closes t o))
-  word_law n ds i d q g spaced (part (exact text) ps) t h D e f cov o =
-      let x = both (part_fits i d in_word ps (exact text)) (parts_fit i d in_word ps) e in
-      let y = both (part_free (exact text)) (parts_free ps) f in
-      word_step (known_in n ds) d q g (exact text) ps t (marked_tilde i d (opening_of g) (exact text) ps (parts_on in_word (behind_opening (part_opens (exact text)) (opening_of g)) ps t) refl x.0)
-      (part_back n ds i d q in_word g ps (exact text) t h D x.0 x.1 y.0 (covers_first (known_in n ds) g (part_bodies (exact text)) (parts_bodies ps) cov) (word_closes t o))
-      (parts_law n ds i d q in_word (after (part_opens (exact text)) g (part_bodies (exact text))) ps t h D x.1 y.1 (covers_after (known_in n ds) (part_opens (exact text)) g (part_bodies (exact text)) (parts_bodies ps) (part_closed (exact text)) cov) (word_closes t o))
-  word_law n ds i d q g spaced (part (double qs) ps) t h D e f cov o =
-      let x = both (part_fits i d in_word ps (double qs)) (parts_fit i d in_word ps) e in
-      let y = both (part_free (double qs)) (parts_free ps) f in
-      word_step (known_in n ds) d q g (double qs) ps t (marked_tilde i d (opening_of g) (double qs) ps (parts_on in_word (behind_opening (part_opens (double qs)) (opening_of g)) ps t) refl x.0)
-      (part_back n ds i d q in_word g ps (double qs) t h D x.0 x.1 y.0 (covers_first (known_in n ds) g (part_bodies (double qs)) (parts_bodies ps) cov) (word_closes t o))
-      (parts_law n ds i d q in_word (after (part_opens (double qs)) g (part_bodies (double qs))) ps t h D x.1 y.1 (covers_after (known_in n ds) (part_opens (double qs)) g (part_bodies (double qs)) (parts_bodies ps) (part_closed (double qs)) cov) (word_closes t o))
-  word_law n ds i d q g spaced (part (param p a) ps) t h D e f cov o =
-      let x = both (part_fits i d in_word ps (param p a)) (parts_fit i d in_word ps) e in
-      let y = both (part_free (param p a)) (parts_free ps) f in
-      word_step (known_in n ds) d q g (param p a) ps t (marked_tilde i d (opening_of g) (param p a) ps (parts_on in_word (behind_opening (part_opens (param p a)) (opening_of g)) ps t) refl x.0)
-      (part_back n ds i d q in_word g ps (param p a) t h D x.0 x.1 y.0 (covers_first (known_in n ds) g (part_bodies (param p a)) (parts_bodies ps) cov) (word_closes t o))
-      (parts_law n ds i d q in_word (after (part_opens (param p a)) g (part_bodies (param p a))) ps t h D x.1 y.1 (covers_after (known_in n ds) (part_opens (param p a)) g (part_bodies (param p a)) (parts_bodies ps) (part_closed (param p a)) cov) (word_closes t o))
-  word_law n ds i d q g spaced (part (listing s) ps) t h D e f cov o =
-      let x = both (part_fits i d in_word ps (listing s)) (parts_fit i d in_word ps) e in
-      let y = both (part_free (listing s)) (parts_free ps) f in
-      word_step (known_in n ds) d q g (listing s) ps t (marked_tilde i d (opening_of g) (listing s) ps (parts_on in_word (behind_opening (part_opens (listing s)) (opening_of g)) ps t) refl x.0)
-      (part_back n ds i d q in_word g ps (listing s) t h D x.0 x.1 y.0 (covers_first (known_in n ds) g (part_bodies (listing s)) (parts_bodies ps) cov) (word_closes t o))
-      (parts_law n ds i d q in_word (after (part_opens (listing s)) g (part_bodies (listing s))) ps t h D x.1 y.1 (covers_after (known_in n ds) (part_opens (listing s)) g (part_bodies (listing s)) (parts_bodies ps) (part_closed (listing s)) cov) (word_closes t o))
-  word_law n ds i d q g spaced (part (sum s ws) ps) t h D e f cov o =
-      let x = both (part_fits i d in_word ps (sum s ws)) (parts_fit i d in_word ps) e in
-      let y = both (part_free (sum s ws)) (parts_free ps) f in
-      word_step (known_in n ds) d q g (sum s ws) ps t (marked_tilde i d (opening_of g) (sum s ws) ps (parts_on in_word (behind_opening (part_opens (sum s ws)) (opening_of g)) ps t) refl x.0)
-      (part_back n ds i d q in_word g ps (sum s ws) t h D x.0 x.1 y.0 (covers_first (known_in n ds) g (part_bodies (sum s ws)) (parts_bodies ps) cov) (word_closes t o))
-      (parts_law n ds i d q in_word (after (part_opens (sum s ws)) g (part_bodies (sum s ws))) ps t h D x.1 y.1 (covers_after (known_in n ds) (part_opens (sum s ws)) g (part_bodies (sum s ws)) (parts_bodies ps) (part_closed (sum s ws)) cov) (word_closes t o))
-
-  -- words one behind the other, in front of what ends them
-  pub words_law : (n : ℕ) (ds : List Text) (i : Bool) (d : ℕ) (q : List Sum) (f : List Text) (ws : shape.Words) (t : Text) (e : State) (ys : List Node) (p : Test) (r : Rule) → Wording p r → limit ≤ n + d → d ≤ limit → words_fit i d ws ≡ true → words_free ws ≡ true → Covers (known_in n ds) (clean f) (words_bodies ws) → Outside t →
-      Says (known_in n ds) (star p (rule r)) (st d q (clean (f ++ words_bodies ws)) t) e ys → Says (known_in n ds) (star p (rule r)) (st d q (clean f) (words_text true true ws ++ t)) e (word_nodes ws ++ ys)
-  words_law n ds i d q f no_word t e ys p r W h D x y cov o a = at_state (ap (λ (z : List Text). st d q (clean z) t) (append-nil f)) a
-  words_law n ds i d q f (word w ws) t e ys p r W h D x y cov o a =
-      let u = both (word_fits i d true w) (words_fit i d ws) x in
-      let v = both (parts_free w) (words_free ws) y in
-      let z = words_text true true ws ++ t in
-      let oz = words_outside ws t o in
-      let front = word_begins i d blank w z u.0 oz in
-      words_step (known_in n ds) d q f (f ++ parts_bodies w) w ws t e ys p r W front
-      (λ bytes g. to_state (ap (λ (b : Due). st d q b z) (after_clean (parts_open w) f (parts_bodies w) (parts_closed w))) (word_node_of (known_in n ds) d q (clean f) bytes w z g front (word_law n ds i d q (clean f) true w z h D u.0 v.0 (covers_first (known_in n ds) (clean f) (parts_bodies w) (words_bodies ws) cov) oz)))
-      (words_law n ds i d q (f ++ parts_bodies w) ws t e ys p r W h D u.1 v.1 (covers_on (known_in n ds) f (parts_bodies w) (words_bodies ws) cov) o
-      (at_state (ap (λ (b : List Text). st d q (clean b) t) (sym (append_assoc f (parts_bodies w) (words_bodies ws)))) a))
-
-  -- an assignment
-  pub assign_law : (n : ℕ) (ds : List Text) (i : Bool) (d : ℕ) (q : List Sum) (f : List Text) (name : Text) (v : shape.Value) (bytes t : Text) → limit ≤ n + d → d ≤ limit → is_name name ≡ true → value_fits i d v ≡ true → value_free v ≡ true → Covers (known_in n ds) (clean f) (value_bodies v) → Outside t →
-      gap bytes ≡ name ++ 61 ∷ (value_text true v ++ t) → Says (known_in n ds) (rule table.assign) (st d q (clean f) bytes) (st d q (clean (f ++ value_bodies v)) t) (assign_node name v ∷ [])
-  assign_law n ds i d q f name no_value bytes t h D m e r cov o g =
-      to_state (ap (λ (z : List Text). st d q (clean z) t) (sym (append-nil f))) (Rattle.sh_printing.proofs.BackSimple.assign_none (known_in n ds) d q (clean f) bytes name t m g o)
-  assign_law n ds i d q f name (value w) bytes t h D m e r cov o g =
-      let x = word_first i d false blank w t e in
-      to_state (ap (λ (b : Due). st d q b t) (after_clean (parts_open w) f (parts_bodies w) (parts_closed w)))
-      (Rattle.sh_printing.proofs.BackSimple.assign_value (known_in n ds) d q (clean f) (after (parts_open w) (clean f) (parts_bodies w)) bytes name (parts_on in_word blank w t) t w m g x.free x.unit
-      (value_node_of (known_in n ds) d q (clean f) w t (word_law n ds i d q (clean f) false w t h D e r cov o)))
-
-  pub assigns_law : (n : ℕ) (ds : List Text) (i : Bool) (d : ℕ) (q : List Sum) (f : List Text) (vs : shape.Assigns) (t : Text) (e : State) (ys : List Node) → limit ≤ n + d → d ≤ limit → assigns_fit i d vs ≡ true → assigns_free vs ≡ true → Covers (known_in n ds) (clean f) (assigns_bodies vs) → Outside t →
-      Says (known_in n ds) (star prefix_begins (rule prefix_item)) (st d q (clean (f ++ assigns_bodies vs)) t) e ys → Says (known_in n ds) (star prefix_begins (rule prefix_item)) (st d q (clean f) (assigns_text true true vs ++ t)) e (assign_nodes vs ++ ys)
-  assigns_law n ds i d q f no_assign t e ys h D x y cov o a = at_state (ap (λ (z : List Text). st d q (clean z) t) (append-nil f)) a
-  assigns_law n ds i d q f (assign name v vs) t e ys h D x y cov o a =
-      let u = three (is_name name) (value_fits i d v) (assigns_fit i d vs) x in
-      let w = both (value_free v) (assigns_free vs) y in
-      let z = assigns_text true true vs ++ t in
-      assigns_step (known_in n ds) d q f (f ++ value_bodies v) name v vs t e ys u.0
-      (λ bytes g. assign_law n ds i d q f name v bytes z h D u.0 u.1 w.0 (covers_first (known_in n ds) (clean f) (value_bodies v) (assigns_bodies vs) cov) (assigns_outside vs t o) g)
-      (assigns_law n ds i d q (f ++ value_bodies v) vs t e ys h D u.2 w.1 (covers_on (known_in n ds) f (value_bodies v) (assigns_bodies vs) cov) o
-      (at_state (ap (λ (b : List Text). st d q (clean b) t) (sym (append_assoc f (value_bodies v) (assigns_bodies vs)))) a))
-
-  -- redirections up to what ends the command
-  pub redirects_law : (n : ℕ) (ds : List Text) (i : Bool) (d : ℕ) (q : List Sum) (g : Due) (behind : Bool) (end : End) (rs : shape.Redirects) (t : Text) (p : Test) (r : Rule) → Redirecting p r → suc limit ≤ n + d → d ≤ limit → redirects_fit i d rs ≡ true → redirects_free rs ≡ true → Covers (known_in n ds) g (redirects_bodies rs) → (bytes : Text) → StartsAs rs bytes (redirects_text true behind end (pending_text g.owing) rs ++ t) →
-      On (known_in n ds) (star p (rule r)) d q (st d q g bytes) end t (redirect_nodes rs) (named g ++ redirects_bodies rs)
-  redirects_law n ds i d q g behind end no_redirect t p r R h D e f cov bytes same = on_all (known_in n ds) d q _ end t [] (named g) (named g ++ []) (sym (append-nil (named g))) (star p (rule r)) (on_at (known_in n ds) d q _ _ end t [] (named g) (ap (λ (z : Text). st d q g z) (sym same)) (star p (rule r)) (no_redirects (known_in n ds) d q g end t p r R))
-  redirects_law n ds i d q g behind end (redirect fd shape.read w rs) t p r R h D e f cov bytes same =
-      let x = three (fd_fits fd) (word_fits i d true w) (redirects_fit i d rs) e in
-      let y = both (parts_free w) (redirects_free rs) f in
-      let m = after (parts_open w) g (parts_bodies w) in
-      let u = redirects_on end m rs t in
-      let o = redirects_outside end (pending_text m.owing) rs t in
-      let v = parts_on in_word (opening_of g) w u in
-      let b = word_begins i d (opening_of g) w u x.1 o in
-      let first = word_first i d true (opening_of g) w u x.1 in
-      let c = covers_first (known_in n ds) g (parts_bodies w) (redirects_bodies rs) cov in
-      let nm = named_after (parts_open w) g (parts_bodies w) (parts_closed w) in
-      redirects_step (known_in n ds) d q g m end fd shape.read w rs t (named g ++ (parts_bodies w ++ redirects_bodies rs)) p r R behind bytes same x.0 (word_owed (parts_open w) g (parts_bodies w))
-      (read_says (known_in n ds) d q g m w v u (unit_aimed v first.free first.unit) (word_node_of (known_in n ds) d q g v w u b.solid b (word_law n ds i d q g true w u (omega arith) D x.1 y.0 c o)))
-      (on_all (known_in n ds) d q _ end t (redirect_nodes rs) (named m ++ redirects_bodies rs) (named g ++ (parts_bodies w ++ redirects_bodies rs)) (ap (λ (z : List Text). z ++ redirects_bodies rs) nm ∙ append_assoc (named g) (parts_bodies w) (redirects_bodies rs)) (star p (rule r))
-      (redirects_law n ds i d q m true end rs t p r R h D x.2 y.1 (covers_after (known_in n ds) (parts_open w) g (parts_bodies w) (redirects_bodies rs) (parts_closed w) cov) (redirects_on end m rs t) (starts_same rs (redirects_on end m rs t))))
-  redirects_law n ds i d q g behind end (redirect fd shape.write w rs) t p r R h D e f cov bytes same =
-      let x = three (fd_fits fd) (word_fits i d true w) (redirects_fit i d rs) e in
-      let y = both (parts_free w) (redirects_free rs) f in
-      let m = after (parts_open w) g (parts_bodies w) in
-      let u = redirects_on end m rs t in
-      let o = redirects_outside end (pending_text m.owing) rs t in
-      let v = parts_on in_word (opening_of g) w u in
-      let b = word_begins i d (opening_of g) w u x.1 o in
-      let first = word_first i d true (opening_of g) w u x.1 in
-      let c = covers_first (known_in n ds) g (parts_bodies w) (redirects_bodies rs) cov in
-      let nm = named_after (parts_open w) g (parts_bodies w) (parts_closed w) in
-      redirects_step (known_in n ds) d q g m end fd shape.write w rs t (named g ++ (parts_bodies w ++ redirects_bodies rs)) p r R behind bytes same x.0 (word_owed (parts_open w) g (parts_bodies w))
-      (write_says (known_in n ds) d q g m w v u (unit_aimed v first.free first.unit) (word_node_of (known_in n ds) d q g v w u b.solid b (word_law n ds i d q g true w u (omega arith) D x.1 y.0 c o)))
-      (on_all (known_in n ds) d q _ end t (redirect_nodes rs) (named m ++ redirects_bodies rs) (named g ++ (parts_bodies w ++ redirects_bodies rs)) (ap (λ (z : List Text). z ++ redirects_bodies rs) nm ∙ append_assoc (named g) (parts_bodies w) (redirects_bodies rs)) (star p (rule r))
-      (redirects_law n ds i d q m true end rs t p r R h D x.2 y.1 (covers_after (known_in n ds) (parts_open w) g (parts_bodies w) (redirects_bodies rs) (parts_closed w) cov) (redirects_on end m rs t) (starts_same rs (redirects_on end m rs t))))
-  redirects_law n ds i d q g behind end (redirect fd shape.append w rs) t p r R h D e f cov bytes same =
-      let x = three (fd_fits fd) (word_fits i d true w) (redirects_fit i d rs) e in
-      let y = both (parts_free w) (redirects_free rs) f in
-      let m = after (parts_open w) g (parts_bodies w) in
-      let u = redirects_on end m rs t in
-      let o = redirects_outside end (pending_text m.owing) rs t in
-      let v = parts_on in_word (opening_of g) w u in
-      let b = word_begins i d (opening_of g) w u x.1 o in
-      let first = word_first i d true (opening_of g) w u x.1 in
-      let c = covers_first (known_in n ds) g (parts_bodies w) (redirects_bodies rs) cov in
-      let nm = named_after (parts_open w) g (parts_bodies w) (parts_closed w) in
-      redirects_step (known_in n ds) d q g m end fd shape.append w rs t (named g ++ (parts_bodies w ++ redirects_bodies rs)) p r R behind bytes same x.0 (word_owed (parts_open w) g (parts_bodies w))
-      (append_says (known_in n ds) d q g m w v u (unit_aimed v first.free first.unit) (word_node_of (known_in n ds) d q g v w u b.solid b (word_law n ds i d q g true w u (omega arith) D x.1 y.0 c o)))
-      (on_all (known_in n ds) d q _ end t (redirect_nodes rs) (named m ++ redirects_bodies rs) (named g ++ (parts_bodies w ++ redirects_bodies rs)) (ap (λ (z : List Text). z ++ redirects_bodies rs) nm ∙ append_assoc (named g) (parts_bodies w) (redirects_bodies rs)) (star p (rule r))
-      (redirects_law n ds i d q m true end rs t p r R h D x.2 y.1 (covers_after (known_in n ds) (parts_open w) g (parts_bodies w) (redirects_bodies rs) (parts_closed w) cov) (redirects_on end m rs t) (starts_same rs (redirects_on end m rs t))))
-  redirects_law n ds i d q g behind end (redirect fd shape.copy_in w rs) t p r R h D e f cov bytes same =
-      let x = three (fd_fits fd) (is_copied_word w) (redirects_fit i d rs) e in
-      let y = both (parts_free w) (redirects_free rs) f in
-      let c = copied_closed w x.1 in
-      redirects_step (known_in n ds) d q g g end fd shape.copy_in w rs t (named g ++ (parts_bodies w ++ redirects_bodies rs)) p r R behind bytes same x.0 (sym (ap (λ (z : Bool). Rattle.sh_printing.specs.Marks.behind_word z (pending_text g.owing)) c.0))
-      (copied_target (known_in n ds) d q g true w (opening_of g) (redirects_on end g rs t) x.1 (redirects_outside end (pending_text g.owing) rs t))
-      (on_all (known_in n ds) d q _ end t (redirect_nodes rs) (named g ++ redirects_bodies rs) (named g ++ (parts_bodies w ++ redirects_bodies rs)) (ap (λ (z : List Text). named g ++ (z ++ redirects_bodies rs)) (sym c.1)) (star p (rule r))
-      (redirects_law n ds i d q g true end rs t p r R h D x.2 y.1 (copied_covers (known_in n ds) g w (redirects_bodies rs) c.1 cov) (redirects_on end g rs t) (starts_same rs (redirects_on end g rs t))))
-  redirects_law n ds i d q g behind end (redirect fd shape.copy_out w rs) t p r R h D e f cov bytes same =
-      let x = three (fd_fits fd) (is_copied_word w) (redirects_fit i d rs) e in
-      let y = both (parts_free w) (redirects_free rs) f in
-      let c = copied_closed w x.1 in
-      redirects_step (known_in n ds) d q g g end fd shape.copy_out w rs t (named g ++ (parts_bodies w ++ redirects_bodies rs)) p r R behind bytes same x.0 (sym (ap (λ (z : Bool). Rattle.sh_printing.specs.Marks.behind_word z (pending_text g.owing)) c.0))
-      (copied_target (known_in n ds) d q g false w (opening_of g) (redirects_on end g rs t) x.1 (redirects_outside end (pending_text g.owing) rs t))
-      (on_all (known_in n ds) d q _ end t (redirect_nodes rs) (named g ++ redirects_bodies rs) (named g ++ (parts_bodies w ++ redirects_bodies rs)) (ap (λ (z : List Text). named g ++ (z ++ redirects_bodies rs)) (sym c.1)) (star p (rule r))
-      (redirects_law n ds i d q g true end rs t p r R h D x.2 y.1 (copied_covers (known_in n ds) g w (redirects_bodies rs) c.1 cov) (redirects_on end g rs t) (starts_same rs (redirects_on end g rs t))))
-  redirects_law n ds i d q g behind end (redirect fd shape.here_literal w rs) t p r R h D e f cov bytes same =
-      let x = three (fd_fits fd) (literal_body i w) (redirects_fit i d rs) e in
-      let y = both (not (has_line (delimiter (body_of w)) (body_of w))) (redirects_free rs) f in
-      let c = covers_next (known_in n ds) g (body_of w) (redirects_bodies rs) cov in
-      let owed = pending_text g.owing ++ marks.whole_body true (body_of w) in
-      let a = literal_target (known_in n ds) d q g i w (redirects_text true true end owed rs ++ t) x.1 (isnt (has_line (delimiter (body_of w)) (body_of w)) y.0) c (redirects_outside end owed rs t) in
-      here_step (known_in n ds) d q g behind end fd shape.here_literal w rs t p r R bytes same x.0 (λ z. refl) refl a
-      (redirects_law n ds i d q (owing_more g a.owes) true end rs t p r R h D x.2 y.1 (here_covers (known_in n ds) g a.owes (body_of w) (redirects_bodies rs) a.body cov) (redirects_on end (owing_more g a.owes) rs t) (starts_same rs (redirects_on end (owing_more g a.owes) rs t)))
-  redirects_law zero ds i d q g behind end (redirect fd shape.here_expanded w rs) t p r R h D e f cov bytes same = absurd (omega arith)
-  redirects_law (suc m) ds i d q g behind end (redirect fd shape.here_expanded w rs) t p r R h D e f cov bytes same =
-      let x = three (fd_fits fd) (ends_line w && parts_fit true d in_body w) (redirects_fit i d rs) e in
-      let z = both (ends_line w) (parts_fit true d in_body w) x.1 in
-      let y = both (not (has_line (delimiter (body_of w)) (body_of w)) && parts_free w) (redirects_free rs) f in
-      let v = both (not (has_line (delimiter (body_of w)) (body_of w))) (parts_free w) y.0 in
-      let c = covers_next (known_in (suc m) ds) g (body_of w) (redirects_bodies rs) cov in
-      let owed = pending_text g.owing ++ marks.whole_body true (body_of w) in
-      let kept = body_kept d w z.1 in
-      let parts = body_says (known_in m (parts_bodies w)) d w (body_of w) (at_state (ap (λ (b : Text). st d [] (clean []) b) (append-nil (body_of w))) (parts_law m (parts_bodies w) true d [] in_body (clean []) w [] (omega arith) D z.1 v.1 (record { later = []; known = known_bodies m (parts_bodies w) ∙ sym (append-nil (parts_bodies w)) }) body_closes)) in
-      let a = expanded_target (known_in (suc m) ds) d q g w (redirects_text true true end owed rs ++ t) (body_lines w z.0) kept.0 kept.1 (isnt (has_line (delimiter (body_of w)) (body_of w)) v.0) c (expanded_back m d ds w z.0 parts) (redirects_outside end owed rs t) in
-      here_step (known_in (suc m) ds) d q g behind end fd shape.here_expanded w rs t p r R bytes same x.0 (λ z. refl) refl a
-      (redirects_law (suc m) ds i d q (owing_more g a.owes) true end rs t p r R h D x.2 y.1 (here_covers (known_in (suc m) ds) g a.owes (body_of w) (redirects_bodies rs) a.body cov) (redirects_on end (owing_more g a.owes) rs t) (starts_same rs (redirects_on end (owing_more g a.owes) rs t)))
+  redirects_lists : (n : ℕ) (ds : List Text) (i : Bool) (rs : shape.Redirects) → RedirectsLists n ds i rs
+  redirects_lists n ds i no_redirect = tt
+  redirects_lists n ds i (redirect fd shape.here_literal w rs) = redirects_lists n ds i rs
+  redirects_lists zero ds i (redirect fd shape.here_expanded w rs) = (tt, redirects_lists zero ds i rs)
+  redirects_lists (suc m) ds i (redirect fd shape.here_expanded w rs) = (parts_lists m (parts_bodies w) true w, redirects_lists (suc m) ds i rs)
+  redirects_lists n ds i (redirect fd op w rs) = (parts_lists n ds i w, redirects_lists n ds i rs)
 
   -- a command and what ends it
   pub command_law : (n : ℕ) (ds : List Text) (i : Bool) (d : ℕ) (q : List Sum) (f : List Text) (end : End) (c : shape.Command) (bytes t : Text) → suc limit ≤ n + d → d ≤ limit → command_fits i d c ≡ true → command_free c ≡ true → Covers (known_in n ds) (clean f) (command_bodies c) → gap bytes ≡ command_text true end c ++ t →
-      On (known_in n ds) (rule table.command) d q (st d q (clean f) bytes) end t (command_node c ∷ []) (f ++ command_bodies c)
-  command_law n ds i d q f end (command (simple no_assign no_word) no_redirect) bytes t h D e r cov g = absurd (nothing_fits i d e)
-  command_law n ds i d q f end (command (simple no_assign no_word) (redirect fd op w rs)) bytes t h D e r cov g =
-      let x = both (kind_fits i d true (simple no_assign no_word)) (redirects_fit i d (redirect fd op w rs)) e in
-      let y = both (kind_free (simple no_assign no_word)) (redirects_free (redirect fd op w rs)) r in
-      let k = known_in n ds in
-      let v = redirects_text true false end [] (redirect fd op w rs) ++ t in
-      let fr = redirect_at i d end [] fd op w rs t x.1 in
-      let on = redirects_law n ds i d q (clean f) false end (redirect fd op w rs) t prefix_begins prefix_item by_prefix h D x.1 y.1 cov bytes (g ∙ sym fr.solid) in
-      redirect_first k d q f bytes v end t (redirect fd op w rs) (f ++ redirects_bodies (redirect fd op w rs)) g (redirect_simple v fr) (Rattle.sh_printing.proofs.BackRedirects.redirect_begins v bytes fr g)
-      (on_all k d q _ end t (redirect_nodes (redirect fd op w rs)) _ (f ++ redirects_bodies (redirect fd op w rs)) (ap (λ (z : List Text). z ++ redirects_bodies (redirect fd op w rs)) (append-nil f)) _ on)
-  command_law n ds i d q f end (command (simple no_assign (word w ws)) rs) bytes t h D e r cov g =
-      let x = both (kind_fits i d (has_redirect rs) (simple no_assign (word w ws))) (redirects_fit i d rs) e in
-      let y = both (kind_free (simple no_assign (word w ws))) (redirects_free rs) r in
-      let k = known_in n ds in
-      let sf = simple_facts i d no_assign (word w ws) rs x.0 in
-      let wf = both (word_fits i d true w) (words_fit i d ws) sf.words in
-      let fr = both (true && words_free (word w ws)) (not (begins_reserved no_assign (word w ws))) y.0 in
-      let wr = both (parts_free w) (words_free ws) (both true (words_free (word w ws)) fr.0).1 in
-      let u = redirects_text true true end [] rs ++ t in
-      let z = words_text true true ws ++ u in
-      let ou = redirects_outside end [] rs t in
-      let oz = words_outside ws u ou in
-      let v = parts_on in_word blank w z in
-      let gv = g ∙ word_split end w ws rs t in
-      let front = word_begins i d blank w z wf.0 oz in
-      let nm = isnt (is_assignment w) (both (not (is_assignment w)) (has_redirect rs || not (is_reserved_word w)) sf.name).0 in
-      let first = first_front i d blank w z wf.0 oz (words_no_open i d ws u wf.1 ou (redirects_no_open i d end [] rs t x.1)) in
-      let c1 = covers_first k (clean f) (parts_bodies w ++ words_bodies ws) (redirects_bodies rs) cov in
-      let c2 = covers_on k f (parts_bodies w ++ words_bodies ws) (redirects_bodies rs) cov in
-      let on = redirects_law n ds i d q (clean (f ++ (parts_bodies w ++ words_bodies ws))) true end rs t suffix_begins suffix_item by_suffix h D x.1 y.1 c2 u (starts_same rs u) in
-      let ws_on = words_law n ds i d q (f ++ parts_bodies w) ws u _ (redirect_nodes rs) suffix_begins suffix_item suffix_words (omega arith) D wf.1 wr.1 (covers_on k f (parts_bodies w) (words_bodies ws) c1) ou
-      (at_state (ap (λ (b : List Text). st d q (clean b) u) (sym (append_assoc f (parts_bodies w) (words_bodies ws)))) on.says) in
-      let all : named (clean (f ++ (parts_bodies w ++ words_bodies ws))) ++ redirects_bodies rs ≡ f ++ ((parts_bodies w ++ words_bodies ws) ++ redirects_bodies rs) = ap (λ (b : List Text). b ++ redirects_bodies rs) (append-nil (f ++ (parts_bodies w ++ words_bodies ws))) ∙ append_assoc f (parts_bodies w ++ words_bodies ws) (redirects_bodies rs) in
-      name_first k d q f bytes v (st d q (clean (f ++ parts_bodies w)) z) end t w ws rs (f ++ ((parts_bodies w ++ words_bodies ws) ++ redirects_bodies rs)) gv
-      (first_simple i d blank w z wf.0 (isnt (begins_reserved no_assign (word w ws)) fr.1) oz (words_no_open i d ws u wf.1 ou (redirects_no_open i d end [] rs t x.1)))
-      (word_no_redirect v v (word_token v v front.solid front)) (first.no_assign nm)
-      (to_state (ap (λ (b : Due). st d q b z) (after_clean (parts_open w) f (parts_bodies w) (parts_closed w))) (word_node_of k d q (clean f) bytes w z gv front (word_law n ds i d q (clean f) true w z (omega arith) D wf.0 wr.0 (covers_first k (clean f) (parts_bodies w) (words_bodies ws) c1) oz)))
-      (record { owing = on.owing; found = on.found; is_all = on.is_all ∙ all; says = ws_on })
-  command_law n ds i d q f end (command (simple (assign name v vs) no_word) rs) bytes t h D e r cov g =
-      let k = known_in n ds in
-      let x = both (kind_fits i d (has_redirect rs) (simple (assign name v vs) no_word)) (redirects_fit i d rs) e in
-      let y = both (kind_free (simple (assign name v vs) no_word)) (redirects_free rs) r in
-      let sf = simple_facts i d (assign name v vs) no_word rs x.0 in
-      let sa = three (is_name name) (value_fits i d v) (assigns_fit i d vs) sf.assigns in
-      let fr = three (assigns_free (assign name v vs)) true true y.0 in
-      let af = both (value_free v) (assigns_free vs) fr.0 in
-      let u = redirects_text true true end [] rs ++ t in
-      let a = assigns_text true true vs ++ u in
-      let ou = redirects_outside end [] rs t in
-      let vb = value_bodies v in let ab = assigns_bodies vs in let rb = redirects_bodies rs in
-      let c0 = covers_first k (clean f) (vb ++ ab) [] (covers_first k (clean f) ((vb ++ ab) ++ []) rb cov) in
-      let fe : f ++ ((vb ++ ab) ++ []) ≡ (f ++ vb) ++ ab = ap (λ (z : List Text). f ++ z) (append-nil (vb ++ ab)) ∙ sym (append_assoc f vb ab) in
-      let cr : Covers k (clean ((f ++ vb) ++ ab)) rb = subst (λ (z : List Text). Covers k (clean z) rb) fe (covers_on k f ((vb ++ ab) ++ []) rb cov) in
-      let on = redirects_law n ds i d q (clean ((f ++ vb) ++ ab)) true end rs t prefix_begins prefix_item by_prefix h D x.1 y.1 cr u (starts_same rs u) in
-      let all : (((f ++ vb) ++ ab) ++ []) ++ rb ≡ f ++ (((vb ++ ab) ++ []) ++ rb) = ap (λ (z : List Text). z ++ rb) (append-nil ((f ++ vb) ++ ab) ∙ sym fe) ∙ append_assoc f ((vb ++ ab) ++ []) rb in
-      assign_first k d q f bytes name (value_text true v ++ a) (st d q (clean (f ++ vb)) a) _ end t v vs no_word rs (f ++ (((vb ++ ab) ++ []) ++ rb)) (assign_nodes vs ++ redirect_nodes rs) [] sa.0 (g ∙ assign_split end name v vs no_word rs t) (append-nil (assign_nodes vs ++ redirect_nodes rs))
-      (assign_law n ds i d q f name v bytes a (omega arith) D sa.0 sa.1 af.0 (covers_first k (clean f) vb ab c0) (assigns_outside vs u ou) (g ∙ assign_split end name v vs no_word rs t))
-      (assigns_law n ds i d q (f ++ vb) vs u _ (redirect_nodes rs) (omega arith) D sa.2 af.1 (covers_on k f vb ab c0) ou on.says)
-      (record { owing = on.owing; found = on.found; is_all = on.is_all ∙ all; says = suffix_stops k d q on.owing on.found end t })
-  command_law n ds i d q f end (command (simple (assign name v vs) (word w ws)) rs) bytes t h D e r cov g =
-      let k = known_in n ds in
-      let x = both (kind_fits i d (has_redirect rs) (simple (assign name v vs) (word w ws))) (redirects_fit i d rs) e in
-      let y = both (kind_free (simple (assign name v vs) (word w ws))) (redirects_free rs) r in
-      let sf = simple_facts i d (assign name v vs) (word w ws) rs x.0 in
-      let sa = three (is_name name) (value_fits i d v) (assigns_fit i d vs) sf.assigns in
-      let wf = both (word_fits i d true w) (words_fit i d ws) sf.words in
-      let fr = three (assigns_free (assign name v vs)) (words_free (word w ws)) true y.0 in
-      let af = both (value_free v) (assigns_free vs) fr.0 in
-      let u = redirects_text true true end [] rs ++ t in
-      let ou = redirects_outside end [] rs t in
-      let wt = words_text true true (word w ws) ++ u in
-      let ow = words_outside (word w ws) u ou in
-      let a = assigns_text true true vs ++ wt in
-      let z = words_text true true ws ++ u in
-      let oz = words_outside ws u ou in
-      let vb = value_bodies v in let ab = assigns_bodies vs in let wb = words_bodies (word w ws) in let rb = redirects_bodies rs in
-      let c1 = covers_first k (clean f) ((vb ++ ab) ++ wb) rb cov in
-      let c0 = covers_first k (clean f) (vb ++ ab) wb c1 in
-      let fe : f ++ (vb ++ ab) ≡ (f ++ vb) ++ ab = sym (append_assoc f vb ab) in
-      let fw : f ++ ((vb ++ ab) ++ wb) ≡ ((f ++ vb) ++ ab) ++ wb = sym (append_assoc f (vb ++ ab) wb) ∙ ap (λ (b : List Text). b ++ wb) fe in
-      let cw : Covers k (clean ((f ++ vb) ++ ab)) wb = subst (λ (b : List Text). Covers k (clean b) wb) fe (covers_on k f (vb ++ ab) wb c1) in
-      let cr : Covers k (clean (((f ++ vb) ++ ab) ++ wb)) rb = subst (λ (b : List Text). Covers k (clean b) rb) fw (covers_on k f ((vb ++ ab) ++ wb) rb cov) in
-      let on = redirects_law n ds i d q (clean (((f ++ vb) ++ ab) ++ wb)) true end rs t suffix_begins suffix_item by_suffix h D x.1 y.1 cr u (starts_same rs u) in
-      let all : ((((f ++ vb) ++ ab) ++ wb) ++ []) ++ rb ≡ f ++ (((vb ++ ab) ++ wb) ++ rb) = ap (λ (b : List Text). b ++ rb) (append-nil (((f ++ vb) ++ ab) ++ wb) ∙ sym fw) ∙ append_assoc f ((vb ++ ab) ++ wb) rb in
-      let nm = isnt (is_assignment w) (both (not (is_assignment w)) (true || not (is_reserved_word w)) sf.name).0 in
-      let front = word_begins i d blank w z wf.0 oz in
-      let first = first_front i d blank w z wf.0 oz (words_no_open i d ws u wf.1 ou (redirects_no_open i d end [] rs t x.1)) in
-      let stop = prefix_stops k d q ((f ++ vb) ++ ab) (parts_on in_word blank w z) front (first.no_assign nm) in
-      let wt_is : 32 ∷ parts_on in_word blank w z ≡ wt = sym (append_assoc (32 ∷ parts_text true in_word blank w) (words_text true true ws) u) in
-      assign_first k d q f bytes name (value_text true v ++ a) (st d q (clean (f ++ vb)) a) (st d q (clean ((f ++ vb) ++ ab)) wt) end t v vs (word w ws) rs (f ++ (((vb ++ ab) ++ wb) ++ rb)) (assign_nodes vs ++ []) (word_nodes (word w ws) ++ redirect_nodes rs) sa.0 (g ∙ assign_split end name v vs (word w ws) rs t) (ap (λ (b : List Node). b ++ (word_nodes (word w ws) ++ redirect_nodes rs)) (append-nil (assign_nodes vs)))
-      (assign_law n ds i d q f name v bytes a (omega arith) D sa.0 sa.1 af.0 (covers_first k (clean f) vb ab c0) (assigns_outside vs wt ow) (g ∙ assign_split end name v vs (word w ws) rs t))
-      (assigns_law n ds i d q (f ++ vb) vs wt (st d q (clean ((f ++ vb) ++ ab)) wt) [] (omega arith) D sa.2 af.1 (covers_on k f vb ab c0) ow (subst (λ (b : Text). Says k (star prefix_begins (rule prefix_item)) (st d q (clean ((f ++ vb) ++ ab)) b) (st d q (clean ((f ++ vb) ++ ab)) b) []) wt_is stop))
-      (record { owing = on.owing; found = on.found; is_all = on.is_all ∙ all; says = words_law n ds i d q ((f ++ vb) ++ ab) (word w ws) u _ (redirect_nodes rs) suffix_begins suffix_item suffix_words (omega arith) D sf.words fr.1 cw ou on.says })
+      On (known_in n ds) (rule table.command) d q (st d q (clean f) bytes) (ended end) t (command_node c ∷ []) (f ++ command_bodies c)
+  command_law n ds i d q f end (command (simple vs ws) rs) bytes t h D e r cov g = simple_law n ds i d q f end vs ws rs bytes t (assigns_lists n ds i vs) (words_lists n ds i ws) (redirects_lists n ds i rs) h D e r cov g
   command_law n ds i d q f end (command (function name c) (redirect fd op w rs)) bytes t h D e r cov g =
       absurd (true≢false (function_facts i d (redirect fd op w rs) name c (both (kind_fits i d true (function name c)) (redirects_fit i d (redirect fd op w rs)) e).0).none)
   command_law n ds i d q f end (command (function name (command ck crs)) no_redirect) bytes t h D e r cov g =
@@ -434,67 +93,27 @@ mutual
       let yb = both (kind_free ck) (redirects_free crs) y in
       let v = command_text true end (command ck crs) ++ t in
       let front = command_begins i d end (command ck crs) t x.body y in
-      let c1 = covers_first k (clean f) (kind_bodies ck ++ redirects_bodies crs) [] cov in
+      let c1 = subst (λ (b : List Text). Covers k (clean f) b) (sym (compound_bodies ck crs x.is_compound)) (covers_first k (clean f) (command_bodies (command ck crs)) [] cov) in
       let at = g ∙ function_split name (command_text true end (command ck crs)) t in
       let w = name ++ 40 ∷ 41 ∷ 32 ∷ v in
-      let u = redirects_text true true end [] crs ++ t in
-      let on = compound_part k d q f end i ck crs (32 ∷ v) t x.is_compound xb.0 (gap_blank v ∙ front.solid) (redirects_outside end [] crs t)
+      let u = redirects_text true true (ended end) [] crs ++ t in
+      let on = compound_part k d q f end i ck crs (32 ∷ v) t x.is_compound xb.0 (gap_blank v ∙ front.solid) (redirects_outside (ended end) [] crs t (ended_outside end t))
       (λ out is_text. compound_law n ds i d q f end (has_redirect crs) ck (32 ∷ v) u h D xb.0 yb.0 x.is_compound (covers_first k (clean f) (kind_bodies ck) (redirects_bodies crs) c1) out is_text)
-      (redirects_law n ds i d q (clean (f ++ kind_bodies ck)) true end crs t table.redirect_begins table.redirect by_redirect h D xb.1 yb.1 (covers_on k f (kind_bodies ck) (redirects_bodies crs) c1) u (starts_same crs u)) in
+      (redirects_law n ds i d q (clean (f ++ kind_bodies ck)) true (ended end) crs t table.redirect_begins table.redirect by_redirect (ended_lasts table.redirect_begins table.redirect by_redirect end t) (redirects_lists n ds i crs) h D xb.1 yb.1 (covers_on k f (kind_bodies ck) (redirects_bodies crs) c1) u (starts_same crs u)) in
       record {
         owing = on.owing;
         found = on.found;
-        is_all = on.is_all ∙ ap (λ (z : List Text). f ++ z) (sym (append-nil (kind_bodies ck ++ redirects_bodies crs)));
+        is_all = on.is_all ∙ ap (λ (z : List Text). f ++ z) (sym (append-nil (command_bodies (command ck crs))));
         says = function_says k d q (clean f) bytes name v _ (command ck crs) x.name at (carry_keys bytes w (at ∙ sym (name_word name (40 ∷ 41 ∷ 32 ∷ v) x.name).solid) (function_keys name (41 ∷ 32 ∷ v) x.name x.free)) front.no_line on.says;
       }
-  command_law n ds i d q f end (command (group s) rs) bytes t h D e r cov g =
-      let x = both (kind_fits i d (has_redirect rs) (group s)) (redirects_fit i d rs) e in
-      let y = both (kind_free (group s)) (redirects_free rs) r in
+  command_law n ds i d q f end (command c rs) bytes t h D e r cov g =
+      let x = both (kind_fits i d (has_redirect rs) c) (redirects_fit i d rs) e in
+      let y = both (kind_free c) (redirects_free rs) r in
       let k = known_in n ds in
-      let u = redirects_text true true end [] rs ++ t in
-      compound_case k d q f end i (group s) rs bytes t refl x.0 g (redirects_outside end [] rs t)
-      (λ out is_text. compound_law n ds i d q f end (has_redirect rs) (group s) bytes u h D x.0 y.0 refl (covers_first k (clean f) (kind_bodies (group s)) (redirects_bodies rs) cov) out is_text)
-      (redirects_law n ds i d q (clean (f ++ kind_bodies (group s))) true end rs t table.redirect_begins table.redirect by_redirect h D x.1 y.1 (covers_on k f (kind_bodies (group s)) (redirects_bodies rs) cov) u (starts_same rs u))
-  command_law n ds i d q f end (command (subshell s) rs) bytes t h D e r cov g =
-      let x = both (kind_fits i d (has_redirect rs) (subshell s)) (redirects_fit i d rs) e in
-      let y = both (kind_free (subshell s)) (redirects_free rs) r in
-      let k = known_in n ds in
-      let u = redirects_text true true end [] rs ++ t in
-      compound_case k d q f end i (subshell s) rs bytes t refl x.0 g (redirects_outside end [] rs t)
-      (λ out is_text. compound_law n ds i d q f end (has_redirect rs) (subshell s) bytes u h D x.0 y.0 refl (covers_first k (clean f) (kind_bodies (subshell s)) (redirects_bodies rs) cov) out is_text)
-      (redirects_law n ds i d q (clean (f ++ kind_bodies (subshell s))) true end rs t table.redirect_begins table.redirect by_redirect h D x.1 y.1 (covers_on k f (kind_bodies (subshell s)) (redirects_bodies rs) cov) u (starts_same rs u))
-  command_law n ds i d q f end (command (branching bs o) rs) bytes t h D e r cov g =
-      let x = both (kind_fits i d (has_redirect rs) (branching bs o)) (redirects_fit i d rs) e in
-      let y = both (kind_free (branching bs o)) (redirects_free rs) r in
-      let k = known_in n ds in
-      let u = redirects_text true true end [] rs ++ t in
-      compound_case k d q f end i (branching bs o) rs bytes t refl x.0 g (redirects_outside end [] rs t)
-      (λ out is_text. compound_law n ds i d q f end (has_redirect rs) (branching bs o) bytes u h D x.0 y.0 refl (covers_first k (clean f) (kind_bodies (branching bs o)) (redirects_bodies rs) cov) out is_text)
-      (redirects_law n ds i d q (clean (f ++ kind_bodies (branching bs o))) true end rs t table.redirect_begins table.redirect by_redirect h D x.1 y.1 (covers_on k f (kind_bodies (branching bs o)) (redirects_bodies rs) cov) u (starts_same rs u))
-  command_law n ds i d q f end (command (loop until a b) rs) bytes t h D e r cov g =
-      let x = both (kind_fits i d (has_redirect rs) (loop until a b)) (redirects_fit i d rs) e in
-      let y = both (kind_free (loop until a b)) (redirects_free rs) r in
-      let k = known_in n ds in
-      let u = redirects_text true true end [] rs ++ t in
-      compound_case k d q f end i (loop until a b) rs bytes t refl x.0 g (redirects_outside end [] rs t)
-      (λ out is_text. compound_law n ds i d q f end (has_redirect rs) (loop until a b) bytes u h D x.0 y.0 refl (covers_first k (clean f) (kind_bodies (loop until a b)) (redirects_bodies rs) cov) out is_text)
-      (redirects_law n ds i d q (clean (f ++ kind_bodies (loop until a b))) true end rs t table.redirect_begins table.redirect by_redirect h D x.1 y.1 (covers_on k f (kind_bodies (loop until a b)) (redirects_bodies rs) cov) u (starts_same rs u))
-  command_law n ds i d q f end (command (walk name ws b) rs) bytes t h D e r cov g =
-      let x = both (kind_fits i d (has_redirect rs) (walk name ws b)) (redirects_fit i d rs) e in
-      let y = both (kind_free (walk name ws b)) (redirects_free rs) r in
-      let k = known_in n ds in
-      let u = redirects_text true true end [] rs ++ t in
-      compound_case k d q f end i (walk name ws b) rs bytes t refl x.0 g (redirects_outside end [] rs t)
-      (λ out is_text. compound_law n ds i d q f end (has_redirect rs) (walk name ws b) bytes u h D x.0 y.0 refl (covers_first k (clean f) (kind_bodies (walk name ws b)) (redirects_bodies rs) cov) out is_text)
-      (redirects_law n ds i d q (clean (f ++ kind_bodies (walk name ws b))) true end rs t table.redirect_begins table.redirect by_redirect h D x.1 y.1 (covers_on k f (kind_bodies (walk name ws b)) (redirects_bodies rs) cov) u (starts_same rs u))
-  command_law n ds i d q f end (command (cases w is) rs) bytes t h D e r cov g =
-      let x = both (kind_fits i d (has_redirect rs) (cases w is)) (redirects_fit i d rs) e in
-      let y = both (kind_free (cases w is)) (redirects_free rs) r in
-      let k = known_in n ds in
-      let u = redirects_text true true end [] rs ++ t in
-      compound_case k d q f end i (cases w is) rs bytes t refl x.0 g (redirects_outside end [] rs t)
-      (λ out is_text. compound_law n ds i d q f end (has_redirect rs) (cases w is) bytes u h D x.0 y.0 refl (covers_first k (clean f) (kind_bodies (cases w is)) (redirects_bodies rs) cov) out is_text)
-      (redirects_law n ds i d q (clean (f ++ kind_bodies (cases w is))) true end rs t table.redirect_begins table.redirect by_redirect h D x.1 y.1 (covers_on k f (kind_bodies (cases w is)) (redirects_bodies rs) cov) u (starts_same rs u))
+      let u = redirects_text true true (ended end) [] rs ++ t in
+      compound_case k d q f end i c rs bytes t refl x.0 g (redirects_outside (ended end) [] rs t (ended_outside end t))
+      (λ out is_text. compound_law n ds i d q f end (has_redirect rs) c bytes u h D x.0 y.0 refl (covers_first k (clean f) (kind_bodies c) (redirects_bodies rs) cov) out is_text)
+      (redirects_law n ds i d q (clean (f ++ kind_bodies c)) true (ended end) rs t table.redirect_begins table.redirect by_redirect (ended_lasts table.redirect_begins table.redirect by_redirect end t) (redirects_lists n ds i rs) h D x.1 y.1 (covers_on k f (kind_bodies c) (redirects_bodies rs) cov) u (starts_same rs u))
 
   -- a compound command before its redirections
   pub compound_law : (n : ℕ) (ds : List Text) (i : Bool) (d : ℕ) (q : List Sum) (f : List Text) (end : End) (redirected : Bool) (c : shape.Kind) (bytes u : Text) → suc limit ≤ n + d → d ≤ limit → kind_fits i d redirected c ≡ true → kind_free c ≡ true → is_compound c ≡ true → Covers (known_in n ds) (clean f) (kind_bodies c) → Outside u → gap bytes ≡ kind_text true end u c →
@@ -578,7 +197,7 @@ mutual
       let v = codes "in" ++ inner in
       let ot = Rattle.sh_printing.proofs.BackTokens.word_ends tail refl in
       let fb = list_begins i (suc d) b (codes "done" ++ u) x.3 x.4 y.1 in
-      let wl = words_law n ds i (suc d) q f ws tail (st (suc d) q (clean (f ++ words_bodies ws)) tail) [] (table.next Word) table.word Rattle.sh_printing.proofs.BackCommands.listed_words (omega arith) (deeper d x.0) x.2 y.0 (covers_first k (clean f) (words_bodies ws) (list_bodies b) cov) ot (listed_stops k (suc d) q (clean (f ++ words_bodies ws)) doing) in
+      let wl = words_law n ds i (suc d) q f ws tail (st (suc d) q (clean (f ++ words_bodies ws)) tail) [] (table.next Word) table.word Rattle.sh_printing.proofs.BackCommands.listed_words (words_lists n ds i ws) (omega arith) (deeper d x.0) x.2 y.0 (covers_first k (clean f) (words_bodies ws) (list_bodies b) cov) ot (listed_stops k (suc d) q (clean (f ++ words_bodies ws)) doing) in
       to_state (ap (λ (z : List Text). st d q (clean z) u) (append_assoc f (words_bodies ws) (list_bodies b)))
       (for_law k d q f (f ++ words_bodies ws) ((f ++ words_bodies ws) ++ list_bodies b) bytes name v w u (listed ws) (Rattle.sh_grammar.specs.State.listed_node (listed ws) ∷ []) b x.0 x.1
       (g ∙ right_six (codes "for " ++ name) (codes " in" ++ words_text true true ws ++ codes "; ") (codes "do ") (list_text true b) (codes "done") u ∙ ap (λ (z : Text). (codes "for " ++ name) ++ z) (right_four (codes " in") (words_text true true ws) (codes "; ") doing) ∙ append_assoc (codes "for ") name (32 ∷ v)) refl refl
@@ -596,34 +215,8 @@ mutual
       let front = word_begins i (suc d) blank w behind x.1 ob in
       to_state (ap (λ (b : List Text). st d q (clean b) u) (append_assoc f (parts_bodies w) (items_bodies is)))
       (case_law k d q f (f ++ parts_bodies w) ((f ++ parts_bodies w) ++ items_bodies is) bytes v inner u w is x.0 (g ∙ right_six (codes "case ") (parts_text true in_word blank w) (codes " in ") (items_text true is) (codes "esac") u)
-      (to_state (ap (λ (b : Due). st (suc d) q b behind) (after_clean (parts_open w) f (parts_bodies w) (parts_closed w))) (word_node_of k (suc d) q (clean f) (32 ∷ v) w behind (gap_blank v ∙ front.solid) front (word_law n ds i (suc d) q (clean f) true w behind (omega arith) (deeper d x.0) x.1 y.0 (covers_first k (clean f) (parts_bodies w) (items_bodies is) cov) ob)))
+      (to_state (ap (λ (b : Due). st (suc d) q b behind) (after_clean (parts_open w) f (parts_bodies w) (parts_closed w))) (word_node_of k (suc d) q (clean f) (32 ∷ v) w behind (gap_blank v ∙ front.solid) front (word_law n ds i (suc d) q (clean f) true w behind (parts_lists n ds i w) (omega arith) (deeper d x.0) x.1 y.0 (covers_first k (clean f) (parts_bodies w) (items_bodies is) cov) ob)))
       (items_no_line is u o) (items_law n ds i (suc d) q (f ++ parts_bodies w) is (32 ∷ inner) u (omega arith) (deeper d x.0) x.2 y.1 (covers_on k f (parts_bodies w) (items_bodies is) cov) (gap_blank inner) o) o)
-
-  -- a pattern
-  pub pattern_law : (n : ℕ) (ds : List Text) (i : Bool) (d : ℕ) (q : List Sum) (f : List Text) (w : shape.Parts) (bytes t : Text) → limit ≤ n + d → d ≤ limit → has_part w ≡ true → plain_begins 35 w ≡ false → parts_fit i d in_word w ≡ true → parts_free w ≡ true → Covers (known_in n ds) (clean f) (parts_bodies w) → Outside t → gap bytes ≡ gap (parts_on in_word blank w t) →
-      Says (known_in n ds) (rule table.pattern) (st d q (clean f) bytes) (st d q (clean (f ++ parts_bodies w)) t) (word_node w ∷ [])
-  pattern_law n ds i d q f no_part bytes t h D m c e r cov o g = absurd (false≢true m)
-  pattern_law n ds i d q f (part p ps) bytes t h D m c e r cov o g =
-      let x = both (part_fits i d in_word ps p) (parts_fit i d in_word ps) e in
-      let y = both (part_free p) (parts_free ps) r in
-      pattern_step (known_in n ds) d q f p ps bytes t (g ∙ (Rattle.sh_printing.proofs.BackWordFronts.pattern_begins i d blank (part p ps) t m c e o).solid) (Rattle.sh_printing.proofs.BackWordFronts.pattern_begins i d blank (part p ps) t m c e o)
-      (part_back n ds i d q in_word (clean f) ps p t h D x.0 x.1 y.0 (covers_first (known_in n ds) (clean f) (part_bodies p) (parts_bodies ps) cov) (word_closes t o))
-      (parts_law n ds i d q in_word (after (part_opens p) (clean f) (part_bodies p)) ps t h D x.1 y.1 (covers_after (known_in n ds) (part_opens p) (clean f) (part_bodies p) (parts_bodies ps) (part_closed p) cov) (word_closes t o))
-
-  pub patterns_law : (n : ℕ) (ds : List Text) (i : Bool) (d : ℕ) (q : List Sum) (f : List Text) (ws : shape.Words) (t : Text) → limit ≤ n + d → d ≤ limit → patterns_fit i d ws ≡ true → words_free ws ≡ true → Covers (known_in n ds) (clean f) (words_bodies ws) →
-      PatternsTo (known_in n ds) d q f (f ++ words_bodies ws) (patterns_text true (codes " | ") ws ++ 41 ∷ t) t ws
-  patterns_law n ds i d q f no_word t h D e r cov = to_state (ap (λ (z : List Text). st d q (clean z) (41 ∷ t)) (sym (append-nil f))) (no_patterns (known_in n ds) d q f t)
-  patterns_law n ds i d q f (word w ws) t h D e r cov =
-      let k = known_in n ds in
-      let x = four (has_part w) (not (plain_begins 35 w)) (parts_fit i d in_word w) (patterns_fit i d ws) e in
-      let y = both (parts_free w) (words_free ws) r in
-      let z = patterns_text true (codes " | ") ws ++ 41 ∷ t in
-      let v = parts_on in_word blank w z in
-      at_state (ap (st d q (clean f)) (sym (append_assoc (codes " | " ++ parts_text true in_word blank w) (patterns_text true (codes " | ") ws) (41 ∷ t))))
-      (to_state (ap (λ (b : List Text). st d q (clean b) (41 ∷ t)) (append_assoc f (parts_bodies w) (words_bodies ws)))
-      (one_pattern k d q f (f ++ parts_bodies w) ((f ++ parts_bodies w) ++ words_bodies ws) v z t w ws
-      (pattern_law n ds i d q f w (32 ∷ v) z h D x.0 (isnt (plain_begins 35 w) x.1) x.2 y.0 (covers_first k (clean f) (parts_bodies w) (words_bodies ws) cov) (patterns_outside ws t) (gap_blank v))
-      (patterns_law n ds i d q (f ++ parts_bodies w) ws t h D x.3 y.1 (covers_on k f (parts_bodies w) (words_bodies ws) cov))))
 
   pub items_law : (n : ℕ) (ds : List Text) (i : Bool) (d : ℕ) (q : List Sum) (f : List Text) (is : shape.Items) (bytes u : Text) → suc limit ≤ n + d → d ≤ limit → items_fit i d is ≡ true → items_free is ≡ true → Covers (known_in n ds) (clean f) (items_bodies is) → gap bytes ≡ gap (items_text true is ++ (codes "esac" ++ u)) → Outside u →
       ItemsTo (known_in n ds) d q f (f ++ items_bodies is) bytes (codes "esac" ++ u) is
@@ -651,8 +244,8 @@ mutual
       let text : items_text true (item (word p ps) b is) ++ z ≡ 40 ∷ v = append_assoc (((((codes "(" ++ parts_text true in_word blank p) ++ patterns_text true (codes " | ") ps) ++ codes ") ") ++ list_text true b) ++ codes ";; ") (items_text true is) z ∙ right_six (codes "(" ++ parts_text true in_word blank p) (patterns_text true (codes " | ") ps) (codes ") ") (list_text true b) (codes ";; ") tt in
       items_all k d q f ((((f ++ pb) ++ wb) ++ lb) ++ ib) (f ++ ((pb ++ wb) ++ (lb ++ ib))) bytes z (item (word p ps) b is) (append_assoc ((f ++ pb) ++ wb) lb ib ∙ ap (λ (q : List Text). q ++ (lb ++ ib)) (sym fe) ∙ append_assoc f (pb ++ wb) (lb ++ ib))
       (one_item k d q f (f ++ pb) ((f ++ pb) ++ wb) (((f ++ pb) ++ wb) ++ lb) ((((f ++ pb) ++ wb) ++ lb) ++ ib) bytes v pt bt tt z p ps b is (g ∙ ap gap text)
-      (pattern_law n ds i d q f p v pt (omega arith) D xp.0 (isnt (plain_begins 35 p) xp.1) xp.2 yp.0 (covers_first k (clean f) pb wb c1) (patterns_outside ps (32 ∷ bt)) refl)
-      (patterns_law n ds i d q (f ++ pb) ps (32 ∷ bt) (omega arith) D xp.3 yp.1 (covers_on k f pb wb c1))
+      (pattern_law n ds i d q f p v pt (parts_lists n ds i p) (omega arith) D xp.0 (isnt (plain_begins 35 p) xp.1) xp.2 yp.0 (covers_first k (clean f) pb wb c1) (patterns_outside ps (32 ∷ bt)) refl)
+      (patterns_law n ds i d q (f ++ pb) ps (32 ∷ bt) (words_lists n ds i ps) (omega arith) D xp.3 yp.1 (covers_on k f pb wb c1))
       (maybe_node_of k d q ((f ++ pb) ++ wb) (((f ++ pb) ++ wb) ++ lb) (32 ∷ bt) semis b nl (maybe_law n ds i d q ((f ++ pb) ++ wb) b (32 ∷ bt) semis h D x.2 yb.0 (covers_first k (clean ((f ++ pb) ++ wb)) lb ib c2) se (gap_blank bt)))
       (items_no_line is u o) (items_law n ds i d q (((f ++ pb) ++ wb) ++ lb) is (32 ∷ tt) u h D x.3 yb.1 (covers_on k ((f ++ pb) ++ wb) lb ib c2) (gap_blank tt) o))
 
@@ -693,7 +286,7 @@ mutual
 
   -- the commands of a pipeline behind the first one
   pub stages_law : (n : ℕ) (ds : List Text) (i : Bool) (d : ℕ) (q : List Sum) (f : List Text) (end : End) (ss : shape.Stages) (ps : List Pending) (found : List Text) (t : Text) → suc limit ≤ n + d → d ≤ limit → stages_fit i d ss ≡ true → stages_free ss ≡ true → Covers (known_in n ds) (clean f) (stages_bodies ss) → marks_pipe end ≡ false → found ++ bodies_of ps ≡ f →
-      On (known_in n ds) (star (table.next Pipe) (rule table.stage)) d q (st d q (due ps found) (ended (stage_end end ss) (pending_text ps) ++ (stages_text true end ss ++ t))) end t (stage_nodes ss) (f ++ stages_bodies ss)
+      On (known_in n ds) (star (table.next Pipe) (rule table.stage)) d q (st d q (due ps found) (ended (stage_end end ss) (pending_text ps) ++ (stages_text true end ss ++ t))) (ended end) t (stage_nodes ss) (f ++ stages_bodies ss)
   stages_law n ds i d q f end no_stage ps found t h D e r cov m is = record { owing = ps; found = found; says = no_stages (known_in n ds) d q ps found end t m; is_all = is ∙ sym (append-nil f) }
   stages_law n ds i d q f end (stage c cs) ps found t h D e r cov m is =
       let k = known_in n ds in
@@ -707,7 +300,7 @@ mutual
       record { owing = b.owing; found = b.found; says = one_stage k d q ps found f u _ _ c (stage_nodes cs) l a.says b.says; is_all = b.is_all ∙ append_assoc f (command_bodies c) (stages_bodies cs) }
 
   pub pipeline_law : (n : ℕ) (ds : List Text) (i : Bool) (d : ℕ) (q : List Sum) (f : List Text) (end : End) (p : shape.Pipeline) (bytes t : Text) → suc limit ≤ n + d → d ≤ limit → pipeline_fits i d p ≡ true → pipeline_free p ≡ true → Covers (known_in n ds) (clean f) (pipeline_bodies p) → marks_pipe end ≡ false → gap bytes ≡ pipeline_text true end p ++ t →
-      On (known_in n ds) (rule table.pipeline) d q (st d q (clean f) bytes) end t (pipeline_node p ∷ []) (f ++ pipeline_bodies p)
+      On (known_in n ds) (rule table.pipeline) d q (st d q (clean f) bytes) (ended end) t (pipeline_node p ∷ []) (f ++ pipeline_bodies p)
   pipeline_law n ds i d q f end (pipeline negated no_stage) bytes t h D e r cov m g = absurd (false≢true e)
   pipeline_law n ds i d q f end (pipeline false (stage c cs)) bytes t h D e r cov m g =
       let k = known_in n ds in
@@ -728,7 +321,7 @@ mutual
       record { owing = b.owing; found = b.found; is_all = b.is_all ∙ append_assoc f (command_bodies c) (stages_bodies cs); says = bang_pipeline_says k d q (clean f) bytes u _ _ c cs g a.says b.says }
 
   pub links_law : (n : ℕ) (ds : List Text) (i : Bool) (d : ℕ) (q : List Sum) (f : List Text) (end : End) (ls : shape.Links) (ps : List Pending) (found : List Text) (t : Text) → suc limit ≤ n + d → d ≤ limit → links_fit i d ls ≡ true → links_free ls ≡ true → Covers (known_in n ds) (clean f) (links_bodies ls) → marks_pipe end ≡ false → marks_link end ≡ false → found ++ bodies_of ps ≡ f →
-      On (known_in n ds) (star table.links (rule table.link)) d q (st d q (due ps found) (ended (link_end end ls) (pending_text ps) ++ (links_text true end ls ++ t))) end t (link_nodes ls) (f ++ links_bodies ls)
+      On (known_in n ds) (star table.links (rule table.link)) d q (st d q (due ps found) (ended (link_end end ls) (pending_text ps) ++ (links_text true end ls ++ t))) (ended end) t (link_nodes ls) (f ++ links_bodies ls)
   links_law n ds i d q f end no_link ps found t h D e r cov m o is = record { owing = ps; found = found; says = no_links (known_in n ds) d q ps found end t o; is_all = is ∙ sym (append-nil f) }
   links_law n ds i d q f end (and_link p ls) ps found t h D e r cov m o is =
       let k = known_in n ds in
@@ -754,7 +347,7 @@ mutual
       record { owing = b.owing; found = b.found; says = one_or k d q ps found f u _ _ p (link_nodes ls) l a.says b.says; is_all = b.is_all ∙ append_assoc f (pipeline_bodies p) (links_bodies ls) }
 
   pub chain_law : (n : ℕ) (ds : List Text) (i : Bool) (d : ℕ) (q : List Sum) (f : List Text) (end : End) (c : shape.Chain) (bytes t : Text) → suc limit ≤ n + d → d ≤ limit → chain_fits i d c ≡ true → chain_free c ≡ true → Covers (known_in n ds) (clean f) (chain_bodies c) → marks_pipe end ≡ false → marks_link end ≡ false → gap bytes ≡ chain_text true end c ++ t →
-      On (known_in n ds) (rule table.chain) d q (st d q (clean f) bytes) end t (chain_node c ∷ []) (f ++ chain_bodies c)
+      On (known_in n ds) (rule table.chain) d q (st d q (clean f) bytes) (ended end) t (chain_node c ∷ []) (f ++ chain_bodies c)
   chain_law n ds i d q f end (chain p ls) bytes t h D e r cov m o g =
       let k = known_in n ds in
       let x = both (pipeline_fits i d p) (links_fit i d ls) e in

@@ -6,69 +6,58 @@ use Rattle.std.proofs.lemmas.List.{append-nil}
 use Rattle.text_grammar.specs.Grammar.{star, rule, seq, choose, pass}
 use Rattle.span_text.specs.Names.{is_name}
 use Rattle.sh_grammar.specs.Shape as shape
-use Rattle.sh_grammar.specs.Shape.{plain, exact, double, tilde, param, subst as listing, arith as sum, no_part, part, as_is, length_of, fill, trim, no_word, word, no_value, value, no_assign, assign, no_redirect, redirect, command, simple, group, subshell, branching, loop, walk, cases, function, no_branch, branch, no_else, otherwise, parameters, listed, no_item, item, no_stage, stage, pipeline, no_link, and_link, or_link, chain, no_chain, next_chain}
+use Rattle.sh_grammar.specs.Shape.{no_part, part, no_word, word, no_assign, no_redirect, redirect, command, simple, group, subshell, branching, loop, walk, cases, function, no_branch, branch, no_else, otherwise, listed, no_item, item, stage, pipeline, no_link, and_link, or_link, chain}
 use Rattle.sh_grammar.specs.Bytes.{Text, in_word, in_double, gap}
-use Rattle.sh_grammar.specs.Tokens.{Newline, Word, Open, is_token, key_text, Key, tilde_next}
-use Rattle.sh_grammar.specs.State.{State, Sum, Node, part_node, word_node, assign_node, command_node, kind_node, pipeline_node, chain_node, script_node}
-use Rattle.sh_grammar.specs.Table.{Test, Rule, expansion, word_parts, prefix_begins, prefix_item}
+use Rattle.sh_grammar.specs.Tokens.{Newline, Word, Open, is_token, key_text}
+use Rattle.sh_grammar.specs.State.{State, Sum, Node, part_node, word_node, command_node, kind_node, pipeline_node, chain_node, script_node}
+use Rattle.sh_grammar.specs.Table.{Test, Rule, expansion}
 use Rattle.sh_grammar.specs.Table as table
-use Rattle.sh_grammar.specs.Steps.{Known, limit, is_empty, expanded_parts}
+use Rattle.sh_grammar.specs.Steps.{Known, limit}
 use Rattle.sh_grammar.proofs.Known.{known_in}
 use Rattle.sh_printing.specs.Marks as marks
-use Rattle.sh_printing.specs.Marks.{End, blank, ended, param_text}
-use Rattle.sh_printing.specs.Printing.{part_text, parts_text, words_text, value_text, assigns_text, redirects_text, command_text, kind_text, list_text, continued, behind_opening, part_opens, parts_open, words_open, op_opens, is_something, has_assign}
-use Rattle.sh_printing.specs.Printable.{part_fits, parts_fit, operand_fits, operand_checks, word_fits, words_fit, patterns_fit, value_fits, assigns_fit, redirects_fit, command_fits, kind_fits, list_fits, plain_fits, reads_tilde, behind_tilde, is_expansion, is_plain_part, has_part, is_length, changes_mark, has_redirect, fd_fits, is_copied_word, literal_body, ends_line, plain_begins, is_assignment, name_fits}
+use Rattle.sh_printing.specs.Marks.{End, blank, ended}
+use Rattle.sh_printing.specs.Printing.{part_text, parts_text, redirects_text, command_text, kind_text, list_text, continued, behind_opening, part_opens, parts_open, is_something, last_text}
+use Rattle.sh_printing.specs.Printable.{command_fits, kind_fits, has_redirect, fd_fits}
 use Rattle.sh_printing.proofs.BackSays.{Says, ◌then◌, saying, at_state, to_state}
-use Rattle.sh_printing.proofs.BackDue.{Due, named, named_after, named_more, st, after, pending_text, Covers, covers_first, covers_second, covers_after, covers_next, owing_more}
-use Rattle.sh_printing.proofs.BackBytes.{both, isnt, neither, four}
+use Rattle.sh_printing.proofs.BackDue.{Due, named, named_more, st, after, pending_text, Covers, covers_first, covers_second, owing_more}
+use Rattle.sh_printing.proofs.BackBytes.{four}
 use Rattle.sh_printing.proofs.BackTokens.{Outside}
-use Rattle.sh_printing.proofs.BackBehind.{Closes, parts_on, word_closes, double_closes, fill_closes, trim_closes, body_closes, name_ends}
-use Rattle.sh_printing.proofs.BackWords.{Parts, no_parts}
-use Rattle.sh_printing.proofs.BackWordFronts.{word_begins, plain_no_tilde}
-use Rattle.sh_printing.proofs.BackRedirects.{read_says, write_says, append_says, unit_aimed, op_text}
+use Rattle.sh_printing.proofs.BackBehind.{parts_on}
+use Rattle.sh_printing.proofs.BackWords.{Parts}
+use Rattle.sh_printing.proofs.BackRedirects.{op_text}
 use Rattle.sh_printing.proofs.BackLines.{clean, Goes}
-use Rattle.sh_printing.proofs.BackCommands.{Redirecting, Wording}
+use Rattle.sh_printing.proofs.BackCommands.{Redirecting}
 use Rattle.sh_printing.proofs.BackLists.{On}
 use Rattle.sh_printing.proofs.BackNamed.{body_of, part_bodies, parts_bodies, redirects_bodies, part_closed, parts_closed, list_bodies}
-use Rattle.sh_printing.proofs.BackNodes.{part_nodes, parts_back, word_nodes, assign_nodes, redirect_nodes}
+use Rattle.sh_printing.proofs.BackNodes.{part_nodes, parts_back, word_nodes, redirect_nodes}
 use Rattle.sh_printing.proofs.BackSums.{opening_of}
-use Rattle.sh_printing.proofs.BackSteps.{after_clean, plain_step, exact_step, double_step, expansion_step, parts_step, WordTo, word_step, tilde_step, marked_tilde, word_node_of, value_node_of, opened, OpenedTo, listing_step}
-use Rattle.sh_printing.proofs.BackBegins.{word_first, words_outside, assigns_outside, redirects_outside, redirect_facts}
-use Rattle.sh_printing.proofs.BackCommands.{close_end}
+use Rattle.sh_printing.proofs.BackSteps.{after_clean}
 use Rattle.sh_printing.proofs.BackCommandSteps.{HereTarget, here_owed, redirects_step, redirects_on}
 use Rattle.sh_grammar.specs.Tokens.{Pipe, Bang}
-use Rattle.sh_grammar.specs.Table.{suffix_begins, suffix_item}
-use Rattle.sh_printing.specs.Printing.{stages_text, pipeline_text, links_text, chain_text, stage_end, link_end}
-use Rattle.sh_printing.specs.Printable.{stages_fit, pipeline_fits, links_fit, chain_fits, is_reserved_word}
-use Rattle.sh_printing.proofs.BackDue.{Pending, bodies_of}
+use Rattle.sh_printing.specs.Printing.{link_end}
+use Rattle.sh_printing.proofs.BackDue.{Pending}
 use Rattle.sh_printing.proofs.BackBytes.{gap_blank}
 use Rattle.sh_printing.proofs.BackNamed.{command_bodies, kind_bodies}
 use Rattle.sh_printing.proofs.BackNodes.{stage_nodes, link_nodes, chain_nodes}
 use Rattle.sh_printing.proofs.BackEnds.{marks_pipe}
-use Rattle.sh_printing.proofs.BackCommands.{by_suffix, by_prefix, suffix_words}
 use Rattle.sh_printing.proofs.BackLists.{MoreTo, carry_pipeline}
-use Rattle.sh_printing.proofs.BackSteps.{no_chains, some_chains}
-use Rattle.sh_printing.proofs.BackBegins.{words_open as words_no_open, redirects_no_open, redirect_at}
 use Rattle.sh_printing.proofs.BackHeads.{PipelineFront}
 use Rattle.sh_grammar.specs.Tokens.{Do, Done, OpenBrace, CloseBrace, If, For, While, Until, Case}
-use Rattle.sh_printing.specs.Printable.{is_compound, has_chain}
+use Rattle.sh_printing.specs.Printable.{is_compound}
 use Rattle.sh_printing.proofs.BackSimple.{carry_token}
 use Rattle.sh_printing.proofs.BackBraces.{right_five}
-use Rattle.sh_printing.proofs.BackCommands.{by_redirect, key_end, key_compound}
-use Rattle.sh_printing.proofs.BackCompound.{ListTo, group_says, subshell_says, while_says, until_says}
+use Rattle.sh_printing.proofs.BackCommands.{key_end, key_compound}
+use Rattle.sh_printing.proofs.BackCompound.{ListTo, while_says, until_says}
 use Rattle.sh_printing.proofs.BackLoops.{compound_command_says, compound_begins_says}
 use Rattle.sh_printing.proofs.BackSteps.{list_node_of}
 use Rattle.sh_grammar.specs.Tokens.{Then, Elif, Else, Fi}
 use Rattle.sh_printing.specs.Printing.{branches_text, otherwise_text}
-use Rattle.sh_printing.specs.Printable.{branches_fit, otherwise_fits}
-use Rattle.sh_printing.proofs.BackCompound.{Elifs, ElsePart, no_elif, one_elif, no_else_says, else_says, if_says}
+use Rattle.sh_printing.specs.Printable.{otherwise_fits}
+use Rattle.sh_printing.proofs.BackCompound.{Elifs, ElsePart, one_elif, else_says, if_says}
 use Rattle.sh_printing.proofs.BackLoops.{Walks, walks_none, walks_listed, for_says}
 use Rattle.sh_grammar.specs.Tokens.{Esac}
 use Rattle.sh_printing.specs.Printing.{patterns_text, items_text}
-use Rattle.sh_printing.specs.Printable.{items_fit}
-use Rattle.sh_printing.proofs.BackCommands.{semis_end}
 use Rattle.sh_printing.proofs.BackLoops.{ItemsTo, no_items, case_says}
-use Rattle.sh_printing.proofs.BackSteps.{maybe_node_of}
 
 -- ---- depths
 
@@ -103,11 +92,11 @@ known_bodies zero bs = refl
 known_bodies (suc m) bs = refl
 
 -- the same bodies
-pub on_all : (k : Known) (d : ℕ) (q : List Sum) (s : State) (end : End) (t : Text) (xs : List Node) (a b : List Text) → a ≡ b → (g : Rattle.sh_grammar.specs.Table.Gram) → On k g d q s end t xs a → On k g d q s end t xs b
-on_all k d q s end t xs a b e g x = record { owing = x.owing; found = x.found; says = x.says; is_all = x.is_all ∙ e }
+pub on_all : (k : Known) (d : ℕ) (q : List Sum) (s : State) (last : Text → Text) (t : Text) (xs : List Node) (a b : List Text) → a ≡ b → (g : Rattle.sh_grammar.specs.Table.Gram) → On k g d q s last t xs a → On k g d q s last t xs b
+on_all k d q s last t xs a b e g x = record { owing = x.owing; found = x.found; says = x.says; is_all = x.is_all ∙ e }
 
-pub on_at : (k : Known) (d : ℕ) (q : List Sum) (s u : State) (end : End) (t : Text) (xs : List Node) (a : List Text) → s ≡ u → (g : Rattle.sh_grammar.specs.Table.Gram) → On k g d q s end t xs a → On k g d q u end t xs a
-on_at k d q s u end t xs a e g x = record { owing = x.owing; found = x.found; says = at_state e x.says; is_all = x.is_all }
+pub on_at : (k : Known) (d : ℕ) (q : List Sum) (s u : State) (last : Text → Text) (t : Text) (xs : List Node) (a : List Text) → s ≡ u → (g : Rattle.sh_grammar.specs.Table.Gram) → On k g d q s last t xs a → On k g d q u last t xs a
+on_at k d q s u last t xs a e g x = record { owing = x.owing; found = x.found; says = at_state e x.says; is_all = x.is_all }
 
 pub copied_covers : (k : Known) (g : Due) (w : shape.Parts) (bs : List Text) → parts_bodies w ≡ [] → Covers k g (parts_bodies w ++ bs) → Covers k g bs
 copied_covers k g w bs e c = subst (λ (z : List Text). Covers k g (z ++ bs)) e c
@@ -116,20 +105,20 @@ pub here_covers : (k : Known) (g : Due) (p : Rattle.sh_printing.proofs.BackDue.P
 here_covers k g p b bs e c = covers_second k g (owing_more g p) (b ∷ []) bs (named_more g p ∙ ap (λ (z : Text). named g ++ z ∷ []) e) c
 
 -- a here-document in front of other redirections
-pub here_step : (k : Known) (d : ℕ) (q : List Sum) (g : Due) (behind : Bool) (end : End) (fd : Option ℕ) (op : shape.RedirectOp) (w : shape.Parts) (rs : shape.Redirects) (t : Text) (p : Test) (r : Rule) → Redirecting p r → (bytes : Text) → gap bytes ≡ gap (redirects_text true behind end (pending_text g.owing) (redirect fd op w rs) ++ t) → fd_fits fd ≡ true →
+pub here_step : (k : Known) (d : ℕ) (q : List Sum) (g : Due) (behind : Bool) (last : Text → Text) (fd : Option ℕ) (op : shape.RedirectOp) (w : shape.Parts) (rs : shape.Redirects) (t : Text) (p : Test) (r : Rule) → Redirecting p r → (bytes : Text) → gap bytes ≡ gap (redirects_text true behind last (pending_text g.owing) (redirect fd op w rs) ++ t) → fd_fits fd ≡ true →
     ((owed : Text) → Rattle.sh_printing.specs.Printing.owed_behind true op (parts_open w) (body_of w) owed ≡ owed ++ marks.whole_body true (body_of w)) → redirects_bodies (redirect fd op w rs) ≡ body_of w ∷ redirects_bodies rs →
-    (a : HereTarget k d q g op w (op_text op ++ (Rattle.sh_printing.proofs.BackBegins.aimed_word op w (opening_of g) ++ (redirects_text true true end (pending_text g.owing ++ marks.whole_body true (body_of w)) rs ++ t))) (redirects_text true true end (pending_text g.owing ++ marks.whole_body true (body_of w)) rs ++ t)) →
-    On k (star p (rule r)) d q (st d q (owing_more g a.owes) (redirects_text true true end (pending_text (owing_more g a.owes).owing) rs ++ t)) end t (redirect_nodes rs) (named (owing_more g a.owes) ++ redirects_bodies rs) →
-    On k (star p (rule r)) d q (st d q g bytes) end t (redirect_nodes (redirect fd op w rs)) (named g ++ redirects_bodies (redirect fd op w rs))
-here_step k d q g behind end fd op w rs t p r R bytes same f ow bs a on =
+    (a : HereTarget k d q g op w (op_text op ++ (Rattle.sh_printing.proofs.BackBegins.aimed_word op w (opening_of g) ++ (redirects_text true true last (pending_text g.owing ++ marks.whole_body true (body_of w)) rs ++ t))) (redirects_text true true last (pending_text g.owing ++ marks.whole_body true (body_of w)) rs ++ t)) →
+    On k (star p (rule r)) d q (st d q (owing_more g a.owes) (redirects_text true true last (pending_text (owing_more g a.owes).owing) rs ++ t)) last t (redirect_nodes rs) (named (owing_more g a.owes) ++ redirects_bodies rs) →
+    On k (star p (rule r)) d q (st d q g bytes) last t (redirect_nodes (redirect fd op w rs)) (named g ++ redirects_bodies (redirect fd op w rs))
+here_step k d q g behind last fd op w rs t p r R bytes same f ow bs a on =
     let m = owing_more g a.owes in
     let e = here_owed g a.owes w a.body a.delimiter_is in
-    let is : redirects_text true true end (pending_text g.owing ++ marks.whole_body true (body_of w)) rs ++ t ≡ redirects_on end m rs t = ap (λ (z : Text). redirects_text true true end z rs ++ t) (sym e) in
+    let is : redirects_text true true last (pending_text g.owing ++ marks.whole_body true (body_of w)) rs ++ t ≡ redirects_on last m rs t = ap (λ (z : Text). redirects_text true true last z rs ++ t) (sym e) in
     let all : named m ++ redirects_bodies rs ≡ named g ++ redirects_bodies (redirect fd op w rs) =
     ap (λ (z : List Text). z ++ redirects_bodies rs) (named_more g a.owes ∙ ap (λ (z : Text). named g ++ z ∷ []) a.body) ∙ append_assoc (named g) (body_of w ∷ []) (redirects_bodies rs) ∙ ap (λ (z : List Text). named g ++ z) (sym bs) in
-    redirects_step k d q g m end fd op w rs t (named g ++ redirects_bodies (redirect fd op w rs)) p r R behind bytes same f (e ∙ sym (ow (pending_text g.owing)))
+    redirects_step k d q g m last fd op w rs t (named g ++ redirects_bodies (redirect fd op w rs)) p r R behind bytes same f (e ∙ sym (ow (pending_text g.owing)))
     (subst (λ (z : Text). Rattle.sh_printing.proofs.BackRedirects.Target k d q g m op w (op_text op ++ (Rattle.sh_printing.proofs.BackBegins.aimed_word op w (opening_of g) ++ z)) z) is a.target)
-    (on_all k d q _ end t (redirect_nodes rs) (named m ++ redirects_bodies rs) (named g ++ redirects_bodies (redirect fd op w rs)) all (star p (rule r)) on)
+    (on_all k d q _ last t (redirect_nodes rs) (named m ++ redirects_bodies rs) (named g ++ redirects_bodies (redirect fd op w rs)) all (star p (rule r)) on)
 
 pub more_all : (k : Known) (d : ℕ) (q : List Sum) (s : State) (t : Text) (xs : List Node) (a b : List Text) → a ≡ b → MoreTo k d q s a t xs → MoreTo k d q s b t xs
 more_all k d q s t xs a b e x = record { ahead = x.ahead; same = x.same; says = to_state (ap (λ (z : List Text). st d q (clean z) x.ahead) e) x.says }
@@ -226,42 +215,53 @@ compound_is i d end redirected bytes u (loop false a b) m e g = key_compound Whi
 compound_is i d end redirected bytes u (walk name ws b) m e g = key_compound For bytes _ (record { is = g; outside = Rattle.sh_printing.proofs.BackTokens.word_ends _ refl }) refl
 compound_is i d end redirected bytes u (cases w is) m e g = key_compound Case bytes _ (record { is = g; outside = Rattle.sh_printing.proofs.BackTokens.word_ends _ refl }) refl
 
-pub something : (c : shape.Kind) → is_compound c ≡ true → is_something c ≡ true
-something (simple vs ws) m = absurd (false≢true m)
-something (group s) m = refl
-something (subshell s) m = refl
-something (branching bs o) m = refl
-something (loop until t b) m = refl
-something (walk n ws b) m = refl
-something (cases w is) m = refl
-something (function n c) m = refl
+compound_tail : (end : End) (c : shape.Kind) (rs : shape.Redirects) (t : Text) → is_compound c ≡ true → kind_text true end (redirects_text true (is_something c) (last_text true end c) [] rs ++ t) c ≡ kind_text true end (redirects_text true true (ended end) [] rs ++ t) c
+compound_tail end (simple vs ws) rs t m = absurd (false≢true m)
+compound_tail end (group s) rs t m = refl
+compound_tail end (subshell s) rs t m = refl
+compound_tail end (branching bs o) rs t m = refl
+compound_tail end (loop until a b) rs t m = refl
+compound_tail end (walk n ws b) rs t m = refl
+compound_tail end (cases w is) rs t m = refl
+compound_tail end (function n c) rs t m = absurd (false≢true m)
+
+-- the bodies of a compound command come before those of its redirections
+pub compound_bodies : (c : shape.Kind) (rs : shape.Redirects) → is_compound c ≡ true → kind_bodies c ++ redirects_bodies rs ≡ command_bodies (command c rs)
+compound_bodies (simple vs ws) rs m = absurd (false≢true m)
+compound_bodies (group s) rs m = refl
+compound_bodies (subshell s) rs m = refl
+compound_bodies (branching bs o) rs m = refl
+compound_bodies (loop until a b) rs m = refl
+compound_bodies (walk n ws b) rs m = refl
+compound_bodies (cases w is) rs m = refl
+compound_bodies (function n c) rs m = absurd (false≢true m)
 
 -- a compound command and its redirections
-pub compound_part : (k : Known) (d : ℕ) (q : List Sum) (f : List Text) (end : End) (i : Bool) (c : shape.Kind) (rs : shape.Redirects) (bytes t : Text) → is_compound c ≡ true → kind_fits i d (has_redirect rs) c ≡ true → gap bytes ≡ command_text true end (command c rs) ++ t → Outside (redirects_text true true end [] rs ++ t) →
-    (Outside (redirects_text true true end [] rs ++ t) → gap bytes ≡ kind_text true end (redirects_text true true end [] rs ++ t) c → Says k (rule table.compound) (st d q (clean f) bytes) (st d q (clean (f ++ kind_bodies c)) (redirects_text true true end [] rs ++ t)) (kind_node c ∷ [])) →
-    On k (star table.redirect_begins (rule table.redirect)) d q (st d q (clean (f ++ kind_bodies c)) (redirects_text true true end [] rs ++ t)) end t (redirect_nodes rs) (named (clean (f ++ kind_bodies c)) ++ redirects_bodies rs) →
-    On k (rule table.compound_command) d q (st d q (clean f) bytes) end t (command_node (command c rs) ∷ []) (f ++ command_bodies (command c rs))
+pub compound_part : (k : Known) (d : ℕ) (q : List Sum) (f : List Text) (end : End) (i : Bool) (c : shape.Kind) (rs : shape.Redirects) (bytes t : Text) → is_compound c ≡ true → kind_fits i d (has_redirect rs) c ≡ true → gap bytes ≡ command_text true end (command c rs) ++ t → Outside (redirects_text true true (ended end) [] rs ++ t) →
+    (Outside (redirects_text true true (ended end) [] rs ++ t) → gap bytes ≡ kind_text true end (redirects_text true true (ended end) [] rs ++ t) c → Says k (rule table.compound) (st d q (clean f) bytes) (st d q (clean (f ++ kind_bodies c)) (redirects_text true true (ended end) [] rs ++ t)) (kind_node c ∷ [])) →
+    On k (star table.redirect_begins (rule table.redirect)) d q (st d q (clean (f ++ kind_bodies c)) (redirects_text true true (ended end) [] rs ++ t)) (ended end) t (redirect_nodes rs) (named (clean (f ++ kind_bodies c)) ++ redirects_bodies rs) →
+    On k (rule table.compound_command) d q (st d q (clean f) bytes) (ended end) t (command_node (command c rs) ∷ []) (f ++ command_bodies (command c rs))
 compound_part k d q f end i c rs bytes t m e g o a on =
-    let x : gap bytes ≡ kind_text true end (redirects_text true true end [] rs ++ t) c = g ∙ kind_tail end (redirects_text true (is_something c) end [] rs) t c m ∙ ap (λ (z : Bool). kind_text true end (redirects_text true z end [] rs ++ t) c) (something c m) in
+    let x : gap bytes ≡ kind_text true end (redirects_text true true (ended end) [] rs ++ t) c = g ∙ kind_tail end (redirects_text true (is_something c) (last_text true end c) [] rs) t c m ∙ compound_tail end c rs t m in
     record {
       owing = on.owing;
       found = on.found;
-      is_all = on.is_all ∙ ap (λ (z : List Text). z ++ redirects_bodies rs) (append-nil (f ++ kind_bodies c)) ∙ append_assoc f (kind_bodies c) (redirects_bodies rs);
+      is_all = on.is_all ∙ ap (λ (z : List Text). z ++ redirects_bodies rs) (append-nil (f ++ kind_bodies c)) ∙ append_assoc f (kind_bodies c) (redirects_bodies rs) ∙ ap (λ (z : List Text). f ++ z) (compound_bodies c rs m);
       says = compound_command_says k d q (clean f) bytes _ _ c rs (a o x) on.says;
     }
 
 -- the same where a command is asked for
-pub compound_case : (k : Known) (d : ℕ) (q : List Sum) (f : List Text) (end : End) (i : Bool) (c : shape.Kind) (rs : shape.Redirects) (bytes t : Text) → is_compound c ≡ true → kind_fits i d (has_redirect rs) c ≡ true → gap bytes ≡ command_text true end (command c rs) ++ t → Outside (redirects_text true true end [] rs ++ t) →
-    (Outside (redirects_text true true end [] rs ++ t) → gap bytes ≡ kind_text true end (redirects_text true true end [] rs ++ t) c → Says k (rule table.compound) (st d q (clean f) bytes) (st d q (clean (f ++ kind_bodies c)) (redirects_text true true end [] rs ++ t)) (kind_node c ∷ [])) →
-    On k (star table.redirect_begins (rule table.redirect)) d q (st d q (clean (f ++ kind_bodies c)) (redirects_text true true end [] rs ++ t)) end t (redirect_nodes rs) (named (clean (f ++ kind_bodies c)) ++ redirects_bodies rs) →
-    On k (rule table.command) d q (st d q (clean f) bytes) end t (command_node (command c rs) ∷ []) (f ++ command_bodies (command c rs))
+pub compound_case : (k : Known) (d : ℕ) (q : List Sum) (f : List Text) (end : End) (i : Bool) (c : shape.Kind) (rs : shape.Redirects) (bytes t : Text) → is_compound c ≡ true → kind_fits i d (has_redirect rs) c ≡ true → gap bytes ≡ command_text true end (command c rs) ++ t → Outside (redirects_text true true (ended end) [] rs ++ t) →
+    (Outside (redirects_text true true (ended end) [] rs ++ t) → gap bytes ≡ kind_text true end (redirects_text true true (ended end) [] rs ++ t) c → Says k (rule table.compound) (st d q (clean f) bytes) (st d q (clean (f ++ kind_bodies c)) (redirects_text true true (ended end) [] rs ++ t)) (kind_node c ∷ [])) →
+    On k (star table.redirect_begins (rule table.redirect)) d q (st d q (clean (f ++ kind_bodies c)) (redirects_text true true (ended end) [] rs ++ t)) (ended end) t (redirect_nodes rs) (named (clean (f ++ kind_bodies c)) ++ redirects_bodies rs) →
+    On k (rule table.command) d q (st d q (clean f) bytes) (ended end) t (command_node (command c rs) ∷ []) (f ++ command_bodies (command c rs))
 compound_case k d q f end i c rs bytes t m e g o a on =
-    let x : gap bytes ≡ kind_text true end (redirects_text true true end [] rs ++ t) c = g ∙ kind_tail end (redirects_text true (is_something c) end [] rs) t c m ∙ ap (λ (z : Bool). kind_text true end (redirects_text true z end [] rs ++ t) c) (something c m) in
+    let x : gap bytes ≡ kind_text true end (redirects_text true true (ended end) [] rs ++ t) c = g ∙ kind_tail end (redirects_text true (is_something c) (last_text true end c) [] rs) t c m ∙ compound_tail end c rs t m in
     record {
       owing = on.owing;
       found = on.found;
-      is_all = on.is_all ∙ ap (λ (z : List Text). z ++ redirects_bodies rs) (append-nil (f ++ kind_bodies c)) ∙ append_assoc f (kind_bodies c) (redirects_bodies rs);
-      says = compound_begins_says k (st d q (clean f) bytes) _ _ (compound_is i d end (has_redirect rs) bytes (redirects_text true true end [] rs ++ t) c m e x) (compound_command_says k d q (clean f) bytes _ _ c rs (a o x) on.says);
+      is_all = on.is_all ∙ ap (λ (z : List Text). z ++ redirects_bodies rs) (append-nil (f ++ kind_bodies c)) ∙ append_assoc f (kind_bodies c) (redirects_bodies rs) ∙ ap (λ (z : List Text). f ++ z) (compound_bodies c rs m);
+      says = compound_begins_says k (st d q (clean f) bytes) _ _ (compound_is i d end (has_redirect rs) bytes (redirects_text true true (ended end) [] rs ++ t) c m e x) (compound_command_says k d q (clean f) bytes _ _ c rs (a o x) on.says);
     }
 
 -- ---- `if` and `for`, with their words written out

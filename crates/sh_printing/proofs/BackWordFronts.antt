@@ -1,5 +1,5 @@
 -- The first token of a printed word.
-use Rattle.std.proofs.Common.{◌≡◌, ℕ, suc, Bool, true, false, List, [], ◌∷◌, ◌++◌, Some, None, refl, sym, ap, subst, ◌∙◌, append_assoc}
+use Rattle.std.proofs.Common.{◌≡◌, ℕ, Bool, true, false, [], ◌∷◌, ◌++◌, refl, sym, subst, ◌∙◌}
 use Rattle.std.specs.Prelude.{◌&&◌, not, ◌==◌}
 use Rattle.span_text.specs.Names.{is_digit}
 use Rattle.span_text.proofs.Bytes.{apart}

@@ -7,7 +7,7 @@ use Rattle.sh_grammar.specs.Shape.{plain, exact, double, tilde, param, subst as 
 use Rattle.sh_grammar.specs.Bytes.{Text, Context, in_word, clear, gap, starts, unit_starts}
 use Rattle.sh_grammar.specs.Tokens.{Word, front, token, code, tilde_at, tilde_next}
 use Rattle.sh_grammar.specs.State.{Sum, Node, part_node, word_node, parts_in}
-use Rattle.sh_grammar.specs.Table.{to_word, tilde_begins, unit_begins, word, value, word_parts, more_parts, pattern}
+use Rattle.sh_grammar.specs.Table.{to_word, unit_begins, word, value, word_parts, more_parts, pattern}
 use Rattle.sh_grammar.specs.Table as table
 use Rattle.sh_grammar.specs.Steps.{Known, run_step, holds}
 use Rattle.sh_printing.specs.Printable.{parts_fit, behind_tilde}

@@ -1,5 +1,6 @@
 pub mod BackBegins
 pub mod BackBehind
+pub mod BackBounds
 pub mod BackBraces
 pub mod BackBytes
 pub mod BackCommandSteps
@@ -16,9 +17,12 @@ pub mod BackFree
 pub mod BackFronts
 pub mod BackHeads
 pub mod BackHere
+pub mod BackInner
 pub mod BackKept
 pub mod BackKeptTexts
 pub mod BackKeys
+pub mod BackLastWords
+pub mod BackLengths
 pub mod BackLines
 pub mod BackLists
 pub mod BackLoops
@@ -31,6 +35,7 @@ pub mod BackSays
 pub mod BackScripts
 pub mod BackSimple
 pub mod BackSimpleSteps
+pub mod BackSimpleTree
 pub mod BackSteps
 pub mod BackSumCells
 pub mod BackSumParts
@@ -40,6 +45,7 @@ pub mod BackTokens
 pub mod BackTree
 pub mod BackTreeSteps
 pub mod BackWordFronts
+pub mod BackWordTree
 pub mod BackWords
 pub mod ExactAll
 pub mod ExactBack
@@ -74,3 +80,4 @@ pub mod ExactSums
 pub mod ExactTails
 pub mod ExactTokens
 pub mod ExactWords
+pub mod HereExamples

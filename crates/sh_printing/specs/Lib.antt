@@ -1,4 +1,5 @@
 pub mod Delimiters
+mod Examples
 pub mod Marks
 pub mod Printable
 pub mod Printing

@@ -1,5 +1,5 @@
 -- The marks between the words, the redirections and the commands that are printed.
-use Rattle.std.specs.Prelude.{ℕ, ◌+◌, Bool, true, false, List, [], ◌∷◌, ◌++◌, Option, Some, None, codes, ◌==◌, ◌&&◌, if◌then◌else◌}
+use Rattle.std.specs.Prelude.{ℕ, Bool, true, false, [], ◌∷◌, ◌++◌, Option, Some, None, codes, ◌==◌, if◌then◌else◌}
 use Rattle.sh_grammar.specs.Shape.{Param, named, digits, count, status, at, star, FillTest, default, assigning, alternate, RedirectOp, read, write, append, here_literal, here_expanded, copy_in, copy_out}
 use Rattle.sh_grammar.specs.Bytes.{Text}
 use Rattle.std.specs.Fmt.{decimal}

@@ -8,6 +8,7 @@ use Rattle.sh_grammar.specs.Bytes.{Text, Context, in_word, in_double, in_body, h
 use Rattle.sh_grammar.specs.Steps.{limit, is_empty, is_copied}
 use Rattle.sh_printing.specs.Printing.{continued, has_assign, has_word}
 use Rattle.sh_printing.specs.Spellable.{is_literal_text, ends_with, begins_with, keeps, exact_fits, param_fits, bare_fits, is_count, begins_assign, is_reserved_text, sum_fits}
+pub use Rattle.sh_printing.specs.Spellable.{is_reserved_word}
 
 -- ---- what stands at a place
 
@@ -74,11 +75,6 @@ abbrev pub reads_tilde : Text → shape.Parts → Bool
 reads_tilde [] ps = false
 reads_tilde (b ∷ []) ps = b == 126 && not (has_part ps)
 reads_tilde (b ∷ c ∷ bs) ps = b == 126 && c == 47
-
--- a word that would be a reserved word where a command begins (2.4)
-abbrev pub is_reserved_word : shape.Parts → Bool
-is_reserved_word (part (plain text) no_part) = is_reserved_text text
-is_reserved_word ps = false
 
 -- a word that would be an assignment before a command's name (2.9.1)
 abbrev pub is_assignment : shape.Parts → Bool

@@ -1,11 +1,12 @@
 -- The text that is printed for a script (POSIX 2.10).
-use Rattle.std.specs.Prelude.{ℕ, zero, suc, ◌+◌, Bool, true, false, ◌||◌, List, [], ◌∷◌, ◌++◌, Option, Some, None, codes, if◌then◌else◌}
+use Rattle.std.specs.Prelude.{Bool, true, false, ◌||◌, ◌&&◌, not, List, [], ◌∷◌, ◌++◌, codes, if◌then◌else◌}
 use Rattle.span_text.specs.Names.{continues_name}
 use Rattle.sh_grammar.specs.Shape as shape
 use Rattle.sh_grammar.specs.Shape.{plain, exact, double, tilde, param, subst, arith, no_part, part, as_is, length_of, fill, trim, no_word, word, no_value, value, no_assign, assign, no_redirect, redirect, command, simple, group, subshell, branching, loop, walk, cases, function, no_branch, branch, no_else, otherwise, parameters, listed, no_item, item, no_stage, stage, pipeline, no_link, and_link, or_link, chain, no_chain, next_chain}
 use Rattle.sh_grammar.specs.Bytes.{Text, Context, in_word, in_double, in_body, has_single, fill_context, trim_context, starts}
 use Rattle.sh_grammar.specs.Steps.{nth}
 use Rattle.sh_printing.specs.Marks.{End, piped, and_then, or_else, next, line, ended, blank, gap, led, exact_text, aimed_text, whole_body, behind_word, fd_text, param_text, param_name, colon_text, test_text, trim_mark, loop_key}
+use Rattle.sh_printing.specs.Spellable.{is_reserved_word}
 use Rattle.sh_printing.specs.Sums.{expr_text}
 
 -- ---- what a part is
@@ -63,9 +64,15 @@ abbrev pub has_word : shape.Words → Bool
 has_word no_word = false
 has_word (word w ws) = true
 
+-- The words of a simple command stand behind its redirections, as in `>x if`: before them the first would be a reserved word (2.4).
+abbrev pub words_last : shape.Assigns → shape.Words → Bool
+words_last no_assign (word w ws) = is_reserved_word w
+words_last no_assign no_word = false
+words_last (assign n v more) ws = false
+
 -- the command has bytes before its redirections
 abbrev pub is_something : shape.Kind → Bool
-is_something (simple as' ws) = has_assign as' || has_word ws
+is_something (simple as' ws) = has_assign as' || (has_word ws && not (words_last as' ws))
 is_something (group s) = true
 is_something (subshell s) = true
 is_something (branching bs o) = true
@@ -120,18 +127,34 @@ abbrev mutual
   assigns_text full behind no_assign = []
   assigns_text full behind (assign n v more) = led behind (n ++ 61 ∷ value_text full v) ++ assigns_text full true more
 
-  -- The redirections of a command up to what ends it, with the bodies that are still to come.
-  pub redirects_text : (full : Bool) → Bool → End → Text → shape.Redirects → Text
-  redirects_text full behind end owed no_redirect = ended end owed
-  redirects_text full behind end owed (redirect fd op w rs) = led behind (fd_text fd ++ aimed_text full op (parts_text full in_body blank w) (parts_text full in_word (gap owed) w)) ++ redirects_text full true end (owed_behind full op (parts_open w) (parts_text full in_body blank w) owed) rs
+  -- Words behind redirections, up to what ends the command, with the bodies that are still to come.
+  pub last_words_text : (full : Bool) → End → shape.Words → (owed : Text) → Text
+  last_words_text full end no_word owed = ended end owed
+  last_words_text full end (word w ws) owed = 32 ∷ parts_text full in_word (gap owed) w ++ last_words_text full end ws (behind_word (parts_open w) owed)
+
+  -- what stands behind a command's redirections, by the bodies that are still to come
+  pub last_text : (full : Bool) → End → shape.Kind → (owed : Text) → Text
+  last_text full end (simple as' ws) = if words_last as' ws then last_words_text full end ws else ended end
+  last_text full end (group s) = ended end
+  last_text full end (subshell s) = ended end
+  last_text full end (branching bs o) = ended end
+  last_text full end (loop until t b) = ended end
+  last_text full end (walk n ws b) = ended end
+  last_text full end (cases w is) = ended end
+  last_text full end (function n c) = ended end
+
+  -- The redirections of a command, with the bodies that are still to come, and what stands behind them.
+  pub redirects_text : (full : Bool) → Bool → (last : Text → Text) → (owed : Text) → shape.Redirects → Text
+  redirects_text full behind last owed no_redirect = last owed
+  redirects_text full behind last owed (redirect fd op w rs) = led behind (fd_text fd ++ aimed_text full op (parts_text full in_body blank w) (parts_text full in_word (gap owed) w)) ++ redirects_text full true last (owed_behind full op (parts_open w) (parts_text full in_body blank w) owed) rs
 
   -- a command and what ends it
   pub command_text : (full : Bool) → End → shape.Command → Text
-  command_text full end (command k rs) = kind_text full end (redirects_text full (is_something k) end [] rs) k
+  command_text full end (command k rs) = kind_text full end (redirects_text full (is_something k) (last_text full end k) [] rs) k
 
   -- A command before its redirections. Those of a function's definition are its body's.
   pub kind_text : (full : Bool) → End → Text → shape.Kind → Text
-  kind_text full end tail (simple as' ws) = assigns_text full false as' ++ words_text full (has_assign as') ws ++ tail
+  kind_text full end tail (simple as' ws) = assigns_text full false as' ++ (if words_last as' ws then [] else words_text full (has_assign as') ws) ++ tail
   kind_text full end tail (group s) = codes "{ " ++ list_text full s ++ codes "}" ++ tail
   kind_text full end tail (subshell s) = codes "( " ++ list_text full s ++ codes ")" ++ tail
   kind_text full end tail (branching bs o) = branches_text full (codes "if ") bs ++ otherwise_text full o ++ codes "fi" ++ tail

@@ -13,7 +13,7 @@ use Rattle.span_text.specs.declared.expr.Expr.TheFolds.{fold-Expr}
 use Rattle.span_text.specs.declared.sign.Infix.{Infix}
 use Rattle.span_text.specs.declared.sign.Infix.TheVariants as sign
 use Rattle.span_text.specs.Expressions.{level, left_level}
-use Rattle.sh_grammar.specs.Shape.{Param, named, digits, count, status, at, star}
+use Rattle.sh_grammar.specs.Shape.{Param, named, digits, count, status, at, star, Parts, no_part, part, plain}
 use Rattle.sh_grammar.specs.Bytes.{Text, Context, is_join, is_literal, is_escaped, has_single}
 use Rattle.sh_grammar.specs.Expansions.{◌>>=◌}
 use Rattle.sh_grammar.specs.Steps.{limit, is_empty}
@@ -119,6 +119,11 @@ is_text k text = same_text text (key_text k)
 abbrev pub is_reserved_text : Text → Bool
 is_reserved_text text = (is_text If text || is_text For text || is_text While text || is_text Until text || is_text Case text || is_text OpenBrace text)
     || (is_text Then text || is_text Elif text || is_text Else text || is_text Fi text || is_text In text || is_text Do text || is_text Done text || is_text Esac text || is_text CloseBrace text || is_text Bang text)
+
+-- a word that would be a reserved word where a command begins
+abbrev pub is_reserved_word : Parts → Bool
+is_reserved_word (part (plain text) no_part) = is_reserved_text text
+is_reserved_word ps = false
 
 -- the rest of a first part that stands for the home directory: nothing, or what begins with `/` (2.6.1)
 abbrev pub begins_with : ℕ → Text → Bool

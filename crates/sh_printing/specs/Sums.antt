@@ -1,5 +1,5 @@
 -- The text of an arithmetic expression (POSIX 2.6.4), with parentheses where the operators' order asks for them.
-use Rattle.std.specs.Prelude.{ℕ, zero, suc, ◌+◌, nat_le, List, [], ◌∷◌, ◌++◌, Option, Some, None, codes, if◌then◌else◌}
+use Rattle.std.specs.Prelude.{ℕ, zero, suc, ◌+◌, nat_le, [], ◌∷◌, ◌++◌, Option, Some, None, codes, if◌then◌else◌}
 use Rattle.std.specs.Fmt.{signed_decimal}
 use Rattle.span_text.specs.declared.expr.UnOp.{UnOp}
 use Rattle.span_text.specs.declared.expr.UnOp.TheVariants.{Plus, Minus, Not, Complement}
