@@ -138,7 +138,7 @@ name_lacks : NameLacks
 unfolding continues_name
 name_lacks = record { dollar = refl; backquote = refl; backslash = refl; nul = refl; blank = refl; tab = refl; newline = refl; semi = refl; ampersand = refl; bar = refl; opening = refl; closing = refl; less = refl; great = refl; single = refl; double = refl }
 
-name_byte : (b : ℕ) → continues_name b ≡ true → is_plain in_word b ≡ true
+pub name_byte : (b : ℕ) → continues_name b ≡ true → is_plain in_word b ≡ true
 unfolding is_plain is_active is_meta
 name_byte b e =
     let p = continues_name in let l = name_lacks in

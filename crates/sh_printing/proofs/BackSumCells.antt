@@ -110,7 +110,7 @@ abbrev pub sum_of : List Cell → Sum
 sum_of cs = record { text = text_of cs; operands = spans_of 0 cs }
 
 -- the operands are numbered from n on
-abbrev Numbered : ℕ → List Cell → Type 0
+abbrev pub Numbered : ℕ → List Cell → Type 0
 Numbered n [] = Unit {0}
 Numbered n (byte b ∷ cs) = Numbered n cs
 Numbered n (expansion m ∷ cs) = (m ≡ n) × Numbered (suc n) cs
@@ -132,7 +132,7 @@ behind_it at c n b (expansion m ∷ cs) lt = (rw (lt-ltb at c lt) refl, ne_eqb (
 at_itself : (at n b : ℕ) (ss : List Span) → cell_at at n (record { from = at; to = at + 1 } ∷ ss) b ≡ expansion n ∷ []
 at_itself at n b ss = rw (not_below at, same_is at) refl
 
-cells_back : (at n : ℕ) (cs : List Cell) → Numbered n cs → cells_from at n (spans_of at cs) (text_of cs) ≡ cs
+pub cells_back : (at n : ℕ) (cs : List Cell) → Numbered n cs → cells_from at n (spans_of at cs) (text_of cs) ≡ cs
 cells_back at n [] h = refl
 cells_back at n (byte b ∷ cs) h = let x = behind_it at (at + 1) n b cs (omega arith) in rw (x.0, x.1) (ap (λ (z : List Cell). byte b ∷ z) (cells_back (at + 1) n cs h))
 cells_back at n (expansion m ∷ cs) h =
@@ -189,23 +189,23 @@ form_numbered check (assigned f o p) d n k g cs h = form_numbered check f d n g.
 
 -- ---- forms of sh
 
-unary_sh : (o : UnOp) (a : Expr) → is_sh_expr (Unary o a) ≡ is_sh_expr a
+pub unary_sh : (o : UnOp) (a : Expr) → is_sh_expr (Unary o a) ≡ is_sh_expr a
 unfolding is_sh_expr
 unary_sh o a = ap is_sh_expr (sym (rolls-Unary o a)) ∙ fold-roll-Expr Bool _ (layer.Unary o a)
 
-and_sh : (a b : Expr) → is_sh_expr (And a b) ≡ (is_sh_expr a && is_sh_expr b)
+pub and_sh : (a b : Expr) → is_sh_expr (And a b) ≡ (is_sh_expr a && is_sh_expr b)
 unfolding is_sh_expr
 and_sh a b = ap is_sh_expr (sym (rolls-And a b)) ∙ fold-roll-Expr Bool _ (layer.And a b)
 
-or_sh : (a b : Expr) → is_sh_expr (Or a b) ≡ (is_sh_expr a && is_sh_expr b)
+pub or_sh : (a b : Expr) → is_sh_expr (Or a b) ≡ (is_sh_expr a && is_sh_expr b)
 unfolding is_sh_expr
 or_sh a b = ap is_sh_expr (sym (rolls-Or a b)) ∙ fold-roll-Expr Bool _ (layer.Or a b)
 
-assign_sh : (a : Expr) (o : Option BinOp) (b : Expr) → is_sh_expr (Assign a o b) ≡ (is_sh_expr a && is_sh_expr b)
+pub assign_sh : (a : Expr) (o : Option BinOp) (b : Expr) → is_sh_expr (Assign a o b) ≡ (is_sh_expr a && is_sh_expr b)
 unfolding is_sh_expr
 assign_sh a o b = ap is_sh_expr (sym (rolls-Assign a o b)) ∙ fold-roll-Expr Bool _ (layer.Assign a o b)
 
-choose_sh : (a b c : Expr) → is_sh_expr (Choose a b c) ≡ (is_sh_expr a && (is_sh_expr b && is_sh_expr c))
+pub choose_sh : (a b c : Expr) → is_sh_expr (Choose a b c) ≡ (is_sh_expr a && (is_sh_expr b && is_sh_expr c))
 unfolding is_sh_expr
 choose_sh a b c = ap is_sh_expr (sym (rolls-Choose a b c)) ∙ fold-roll-Expr Bool _ (layer.Choose a b c)
 
@@ -221,7 +221,7 @@ operand_sh : (m : ℕ) → is_sh_expr (Operand m) ≡ true
 unfolding is_sh_expr
 operand_sh m = ap is_sh_expr (sym (rolls-Operand m)) ∙ fold-roll-Expr Bool _ (layer.Operand m)
 
-binary_sh : (o : BinOp) (a b : Expr) → is_sh_infix (infixes.Plain o) ≡ true → is_sh_expr (Binary o a b) ≡ (is_sh_expr a && is_sh_expr b)
+pub binary_sh : (o : BinOp) (a b : Expr) → is_sh_infix (infixes.Plain o) ≡ true → is_sh_expr (Binary o a b) ≡ (is_sh_expr a && is_sh_expr b)
 unfolding is_sh_expr
 binary_sh op.Power a b e = absurd (false≢true e)
 binary_sh op.Times a b e = ap is_sh_expr (sym (rolls-Binary op.Times a b)) ∙ fold-roll-Expr Bool _ (layer.Binary op.Times a b)

@@ -1,6 +1,7 @@
-//! The law of what is printed.
+//! The laws of what is printed.
 
 ghost use Rattle.std.specs.Prelude.{◌≡◌, ◌<◌, ◌^◌, true, length};
+ghost use Rattle.sh_grammar.specs.Bytes.{Text};
 ghost use Rattle.sh_grammar.specs.Shape.{Script};
 ghost use Rattle.sh_grammar.specs.Spelling.{Reads};
 ghost use Rattle.sh_printing.specs.Printable.{script_printable};
@@ -11,4 +12,10 @@ ghost use Rattle.sh_printing.specs.Printing.{printed};
 #[tactic(auto, using(crate::proofs::BackScripts::reads_back))]
 pub fn reads_back()
     ensures { (s : Script) → script_printable s ≡ true → length (printed s) < 2 ^ 32 → Reads (printed s) s }
+{}
+
+/// What some text spells can be printed.
+#[tactic(auto)]
+pub fn spelled_is_printable()
+    ensures { (text : Text) (s : Script) → Reads text s → script_printable s ≡ true }
 {}
