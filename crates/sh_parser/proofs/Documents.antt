@@ -1,7 +1,6 @@
 -- Here-documents, and the bodies that are expanded.
-use Rattle.std.proofs.Common.{◌≡◌, ◌==◌, ℕ, zero, suc, ◌+◌, ◌-◌, Bool, true, false, cond, List, [], ◌∷◌, ◌++◌, length, length-append, Option, Some, None, refl, sym, ap, subst, ◌∙◌, arith}
-use Rattle.std.specs.Prelude.{map, if◌then◌else◌}
-use Rattle.std.proofs.lemmas.Bool.Decides.{nat_tests}
+use Rattle.std.proofs.Common.{◌≡◌, ◌==◌, ℕ, zero, suc, ◌+◌, ◌-◌, Bool, true, false, List, [], ◌∷◌, ◌++◌, length, length-append, Option, Some, None, refl, sym, ap, ◌∙◌, arith}
+use Rattle.std.specs.Prelude.{if◌then◌else◌}
 use Rattle.std.proofs.lemmas.List.{map_push}
 use Rattle.text_grammar.specs.Grammar.{rule, Leaf, said}
 use Rattle.text_grammar.specs.Answers.{FailsAs}
@@ -16,7 +15,7 @@ use Rattle.sh_grammar.specs.State.{State, Node, start_at, aimed_node, word_in}
 use Rattle.sh_grammar.specs.Table.{body_parts, here}
 use Rattle.sh_grammar.specs.Tokens as tokens
 use Rattle.sh_grammar.specs.Steps.{Known, run_step, expanded_parts, literal_parts, nth, here_read, here_after, here_node, word_place}
-use Rattle.sh_grammar.specs.Spelling.{sh, no_parts}
+use Rattle.sh_grammar.specs.Spelling.{sh}
 use Rattle.sh_parser.specs.declared.bodies.Owed.{Owed as OwedNote}
 use Rattle.sh_parser.specs.declared.notes.Notes.{Notes}
 use Rattle.sh_parser.specs.Owing.{owed_of}

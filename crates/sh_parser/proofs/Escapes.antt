@@ -1,11 +1,11 @@
 -- What a backslash quotes.
-use Rattle.std.proofs.Common.{◌≡◌, ℕ, Bool, true, false, cond, List, [], ◌∷◌, Option, Some, None, refl, ap}
+use Rattle.std.proofs.Common.{◌≡◌, ℕ, Bool, true, false, cond, [], ◌∷◌, Option, Some, None, refl, ap}
 use Rattle.text_grammar.specs.Grammar.{said}
 use Rattle.text_grammar.proofs.Tools.{some_is}
 use Rattle.sh_grammar.specs.Shape.{exact}
 use Rattle.sh_grammar.specs.Bytes.{Text, Context, is_escaped}
 use Rattle.sh_grammar.specs.State.{State, move, part_node}
-use Rattle.sh_grammar.specs.Steps.{Read, gives, escaped_read}
+use Rattle.sh_grammar.specs.Steps.{gives, escaped_read}
 use Rattle.sh_parser.specs.Views.{escaped_first}
 
 escaped_at : (t : Bool) (s : State) (b d : ℕ) (bs rest : Text) → cond {A = Option (ℕ × Text)} t (Some (b, bs)) None ≡ Some (d, rest) → cond t (gives (part_node (exact (b ∷ []))) s bs) None ≡ gives (part_node (exact (d ∷ []))) s rest

@@ -1,14 +1,10 @@
 -- How what the table is made of reads, behind what was read before.
-use Rattle.std.proofs.Common.{◌≡◌, ℕ, zero, suc, ◌+◌, ◌*◌, ◌<◌, ◌≤◌, Bool, true, false, cond, List, [], ◌∷◌, ◌++◌, length, Option, Some, None, refl, sym, ap, subst, ◌∙◌, arith}
-use Rattle.std.specs.Prelude.{nat_le, ◌&&◌}
-use Rattle.std.proofs.lemmas.Bool.Decides.{nat_tests}
+use Rattle.std.proofs.Common.{◌≡◌, ℕ, zero, suc, Bool, true, false, cond, List, [], ◌∷◌, ◌++◌, Option, Some, None, refl, sym, ap, ◌∙◌}
+use Rattle.std.specs.Prelude.{◌&&◌}
 use Rattle.text_grammar.specs.Grammar.{pass, fail, step, seq, choose, star, rule}
 use Rattle.text_grammar.specs.Ranks.{takes, small, shallow}
-use Rattle.text_grammar.specs.Language.{one_if}
-use Rattle.text_grammar.specs.Answers.{FailsAs}
-use Rattle.text_grammar.specs.Values.{vals, behind, go, done, eval, ◌&◌}
-use Rattle.text_grammar.proofs.Tools.{some_is}
-use Rattle.text_grammar.proofs.Rules.{go_is, behind_more, behind_nil, eval_shorter, vals_shorter}
+use Rattle.text_grammar.specs.Values.{vals, behind, go, done, eval}
+use Rattle.text_grammar.proofs.Rules.{go_is}
 use Rattle.sh_grammar.specs.Bytes.{Text}
 use Rattle.sh_grammar.specs.Expansions.{◌>>=◌}
 use Rattle.sh_grammar.specs.State.{State, Node, start_at}
@@ -16,20 +12,18 @@ use Rattle.sh_grammar.specs.Table as table
 use Rattle.sh_grammar.specs.Table.{Rule, Test, Gram, body}
 use Rattle.sh_grammar.specs.Steps.{run_step, holds}
 use Rattle.sh_grammar.specs.Acts.{act}
-use Rattle.sh_grammar.specs.Depths.{ranks, rank}
+use Rattle.sh_grammar.specs.Depths.{ranks}
 use Rattle.sh_grammar.specs.Spelling.{sh}
 use Rattle.sh_grammar.proofs.Ends.{sh_ends}
 use Rattle.sh_parser.specs.declared.table.Unit.{Unit}
-use Rattle.sh_parser.specs.declared.table.Unit.TheVariants as units
 use Rattle.sh_parser.specs.declared.table.Item.{Item}
 use Rattle.sh_parser.specs.declared.table.Item.TheVariants as items
-use Rattle.sh_parser.specs.Tables as tables
 use Rattle.sh_parser.specs.Tables.{unit, test, items_gram, chosen, is_small}
-use Rattle.std.proofs.lemmas.List.{map-append, append-nil}
+use Rattle.std.proofs.lemmas.List.{map-append}
 use Rattle.sh_parser.specs.declared.values.Value.{Value}
 use Rattle.sh_parser.specs.Values.{value_node, nodes}
 use Rattle.sh_parser.specs.Views.{known}
-use Rattle.sh_parser.proofs.Levels.{rule_is, star_at}
+use Rattle.sh_parser.proofs.Levels.{rule_is}
 
 -- what a grammar reads, behind what was read before
 abbrev pub goes : ℕ → List Text → Gram → List Node → State → Option (List Node × State)

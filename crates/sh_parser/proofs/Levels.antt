@@ -1,12 +1,12 @@
 -- Rules and repetitions of sh, one level at a time, as what is known of its here-documents says it.
-use Rattle.std.proofs.Common.{◌≡◌, ℕ, zero, suc, true, cond, List, [], Option, Some}
+use Rattle.std.proofs.Common.{◌≡◌, ℕ, zero, suc, true, cond, List, [], Some}
 use Rattle.text_grammar.specs.Grammar.{star, rule}
 use Rattle.text_grammar.specs.Ranks.{small}
 use Rattle.text_grammar.specs.Values.{vals, go, done, eval, ◌&◌}
 use Rattle.text_grammar.proofs.Rules.{rule_go}
 use Rattle.text_grammar.proofs.Levels.{star_is}
 use Rattle.sh_grammar.specs.Bytes.{Text}
-use Rattle.sh_grammar.specs.State.{State, Node}
+use Rattle.sh_grammar.specs.State.{State}
 use Rattle.sh_grammar.specs.Depths.{ranks}
 use Rattle.sh_grammar.specs.Table.{Rule, Test, Gram, body}
 use Rattle.sh_grammar.specs.Steps.{run_step, holds}

@@ -18,3 +18,4 @@ pub mod Picked
 pub mod Levels
 pub mod Turning
 pub mod Stack
+pub mod Redirections

@@ -1,9 +1,9 @@
 -- The expression that a text spells is the one that its tokens are read as.
-use Rattle.std.proofs.Common.{◌≡◌, ℕ, Bool, true, false, List, [], ◌∷◌, Option, Some, None, refl, sym, ap, ◌∙◌}
+use Rattle.std.proofs.Common.{◌≡◌, true, false, List, [], ◌∷◌, Option, Some, None, refl, ap, ◌∙◌}
 use Rattle.std.specs.Prelude.{if◌then◌else◌}
 use Rattle.span_text.specs.declared.expr.Expr.{Expr}
 use Rattle.span_text.specs.ExprTokens.{Token, gap, tokens, cells_of, without_joins}
-use Rattle.span_text.specs.Expressions.{IsSpelled, Spells, tree, written}
+use Rattle.span_text.specs.Expressions.{IsSpelled, written}
 use Rattle.arith64.specs.Parsing.{parsed}
 use Rattle.arith64.proofs.Complete.{reads}
 use Rattle.arith64.proofs.Sound.{sound}

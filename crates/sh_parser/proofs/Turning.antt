@@ -1,6 +1,6 @@
 -- What a turn does: the tasks behind it give what those before it gave.
-use Rattle.std.proofs.Common.{◌≡◌, ℕ, zero, suc, Bool, true, false, cond, List, [], ◌∷◌, ◌++◌, Option, Some, None, refl, sym, ap, subst, ◌∙◌}
-use Rattle.std.specs.Prelude.{map, reverse, ◌&&◌}
+use Rattle.std.proofs.Common.{◌≡◌, ℕ, Bool, true, false, cond, List, [], ◌∷◌, ◌++◌, Option, Some, None, refl, sym, ap, ◌∙◌}
+use Rattle.std.specs.Prelude.{map, reverse}
 use Rattle.std.proofs.lemmas.List.{map_push, reverse-append, append-nil}
 use Rattle.text_grammar.specs.Grammar.{step, star, rule}
 use Rattle.text_grammar.specs.Answers.{FailsAs}

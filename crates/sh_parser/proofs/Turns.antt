@@ -1,21 +1,20 @@
 -- A text is read piece by piece.
-use Rattle.std.proofs.Common.{◌≡◌, ◌==◌, ℕ, zero, suc, ◌+◌, ◌-◌, ◌<◌, ◌≤◌, Bool, true, false, cond, List, [], ◌∷◌, ◌++◌, length, Option, Some, None, refl, sym, ap, subst, ◌∙◌, append_assoc, append-nil, arith}
-use Rattle.std.specs.Prelude.{map, Result, Ok, Err}
+use Rattle.std.proofs.Common.{◌≡◌, ◌==◌, ℕ, ◌-◌, ◌<◌, ◌≤◌, Bool, true, false, List, [], ◌∷◌, ◌++◌, length, Option, Some, None, refl, sym, ap, subst, ◌∙◌, append_assoc, append-nil, arith}
+use Rattle.std.specs.Prelude.{Result, Ok, Err}
 use Rattle.std.proofs.lemmas.Bool.Decides.{nat_tests}
-use Rattle.text_grammar.specs.Grammar.{rule, choose, step}
-use Rattle.text_grammar.specs.Values.{vals, go, behind}
+use Rattle.text_grammar.specs.Grammar.{rule}
+use Rattle.text_grammar.specs.Values.{vals}
 use Rattle.text_grammar.specs.Later.{vals_twice}
 use Rattle.text_grammar.specs.Place.{goes_on, front, front_in}
-use Rattle.text_grammar.specs.Answers.{FailsAs, views}
+use Rattle.text_grammar.specs.Answers.{FailsAs}
 use Rattle.text_grammar.proofs.Tools.{some_is}
 use Rattle.sh_grammar.specs.Shape as shape
 use Rattle.sh_grammar.specs.Bytes.{Text, gap, idle}
 use Rattle.sh_grammar.specs.Expansions.{◌>>=◌}
 use Rattle.sh_grammar.specs.State.{State, Node, start_at, fresh, chains_in}
-use Rattle.sh_grammar.specs.Tokens.{Newline, is_token}
-use Rattle.sh_grammar.specs.Table.{next, line, ends, piece, complete}
-use Rattle.sh_grammar.specs.Steps.{run_step, holds, is_empty}
-use Rattle.sh_grammar.specs.Spelling.{sh, sh_with, Reads, IsErrorAt}
+use Rattle.sh_grammar.specs.Table.{piece}
+use Rattle.sh_grammar.specs.Steps.{is_empty}
+use Rattle.sh_grammar.specs.Spelling.{sh_with, Reads, IsErrorAt}
 use Rattle.sh_grammar.specs.Pieces.{next_piece, nodes_from, nodes_in, stop_from}
 use Rattle.sh_grammar.proofs.Lengths.{idle_fits}
 use Rattle.sh_grammar.proofs.Pieces.{next_less}
@@ -25,7 +24,6 @@ use Rattle.sh_parser.specs.declared.fault.Stop.{Stop}
 use Rattle.sh_parser.specs.declared.fault.Stop.TheVariants as stop
 use Rattle.sh_parser.specs.Answers.{Gives}
 use Rattle.sh_parser.specs.Turns.{next_at}
-use Rattle.sh_parser.specs.Views.{known}
 
 -- ---- read once or twice
 

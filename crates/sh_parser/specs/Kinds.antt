@@ -1,5 +1,5 @@
 -- The kinds of bytes and tokens in the code, as those of the grammar.
-use Rattle.std.specs.Prelude.{ℕ, Bool}
+use Rattle.std.specs.Prelude.{ℕ, Bool, ◌==◌, ◌||◌}
 use Rattle.span_text.specs.Names.{continues_name, is_digit}
 use Rattle.sh_grammar.specs.Bytes.{Text, is_literal, in_word, in_double, in_body, in_brace, in_quoted_brace, in_body_brace, in_body_pattern}
 use Rattle.sh_grammar.specs.Bytes as bytes
@@ -66,3 +66,10 @@ key keys.Esac = tokens.Esac
 key keys.OpenBrace = tokens.OpenBrace
 key keys.CloseBrace = tokens.CloseBrace
 key keys.Bang = tokens.Bang
+
+-- the tokens that begin a redirection
+abbrev pub redirect_op : tokens.Op → Bool
+redirect_op t =
+    tokens.code t == tokens.code tokens.Io || tokens.code t == tokens.code tokens.Less || tokens.code t == tokens.code tokens.Great || tokens.code t == tokens.code tokens.DGreat
+    || (tokens.code t == tokens.code tokens.DLess || tokens.code t == tokens.code tokens.DLessDash)
+    || (tokens.code t == tokens.code tokens.LessAnd || tokens.code t == tokens.code tokens.GreatAnd)

@@ -1,7 +1,6 @@
 -- What is still to be read.
 use Rattle.std.specs.Prelude.{ℕ, Bool, true, false, ◌&&◌, List, [], ◌∷◌, ◌++◌, map, reverse, Option, Some, ◌≡◌, Result, Ok, Err}
-use Rattle.text_grammar.specs.Grammar.{star, rule}
-use Rattle.text_grammar.specs.Ranks.{small}
+use Rattle.text_grammar.specs.Grammar.{star}
 use Rattle.text_grammar.specs.Values.{vals, behind, go}
 use Rattle.sh_grammar.specs.Bytes.{Text}
 use Rattle.sh_grammar.specs.Expansions.{◌>>=◌}
@@ -10,7 +9,6 @@ use Rattle.sh_grammar.specs.Table as table
 use Rattle.sh_grammar.specs.Table.{Rule, Gram}
 use Rattle.sh_grammar.specs.Steps.{run_step, holds}
 use Rattle.sh_grammar.specs.Acts.{act}
-use Rattle.sh_grammar.specs.Depths.{ranks}
 use Rattle.sh_grammar.specs.Spelling.{sh}
 use Rattle.sh_parser.specs.declared.table.Item.{Item}
 use Rattle.sh_parser.specs.declared.table.Test.{Test}

@@ -1,8 +1,8 @@
 -- What reading a text piece by piece answers.
-use Rattle.std.specs.Prelude.{ℕ, List, Option, Some, None}
+use Rattle.std.specs.Prelude.{ℕ, List, Option, Some}
 use Rattle.sh_grammar.specs.Bytes.{Text}
 use Rattle.sh_grammar.specs.Expansions.{◌>>=◌}
-use Rattle.sh_grammar.specs.State.{State, Node, start_at}
+use Rattle.sh_grammar.specs.State.{Node, start_at}
 use Rattle.sh_grammar.specs.Pieces.{next_piece}
 use Rattle.sh_parser.specs.declared.fault.ReadFault.{ReadFault}
 use Rattle.sh_parser.specs.declared.fault.ReadFault.TheVariants as faults

@@ -1,9 +1,9 @@
 -- Where reading is and what the code has read, as the grammar says it.
-use Rattle.std.specs.Prelude.{ℕ, zero, suc, ◌+◌, Bool, true, false, List, [], ◌∷◌, ◌++◌, ◌-◌, ◌&&◌, not, if◌then◌else◌, map, length, reverse, Option, Some, None}
+use Rattle.std.specs.Prelude.{ℕ, zero, suc, ◌+◌, Bool, true, false, List, [], ◌∷◌, ◌++◌, ◌&&◌, not, if◌then◌else◌, map, length, reverse, Option, Some, None}
 use Rattle.text_grammar.specs.Grammar.{rule}
 use Rattle.text_grammar.specs.Values.{vals}
 use Rattle.sh_grammar.specs.Shape as shape
-use Rattle.sh_grammar.specs.Bytes.{Text, Context, is_escaped, clear, gap, unit_starts, in_word}
+use Rattle.sh_grammar.specs.Bytes.{Text, Context, is_escaped, clear, unit_starts, in_word}
 use Rattle.sh_grammar.specs.Expansions.{◌>>=◌}
 use Rattle.sh_grammar.specs.State as states
 use Rattle.sh_grammar.specs.State.{State, start_at, Node, word_in, text_node, part_node, word_node, digit_node, aimed_node, redirect_node, assign_node, kind_node, command_node, bang_node, pipeline_node, and_node, or_node, chain_node, script_node, branch_node, else_node, listed_node, item_node}
@@ -14,20 +14,6 @@ use Rattle.sh_grammar.specs.Sums.{innermost, without_innermost}
 use Rattle.span_text.specs.declared.expr.Expr.{Expr}
 use Rattle.sh_grammar.specs.Tokens as tokens
 use Rattle.sh_grammar.specs.Spelling.{sh, no_parts}
-use Rattle.sh_syntax.specs.declared.tree.Part.{Part}
-use Rattle.sh_syntax.specs.declared.tree.Word.{Word}
-use Rattle.sh_syntax.specs.declared.tree.Name.{Name}
-use Rattle.sh_syntax.specs.declared.tree.Redirect.{Redirect}
-use Rattle.sh_syntax.specs.declared.tree.Assign.{Assign}
-use Rattle.sh_syntax.specs.declared.tree.Command.{Command}
-use Rattle.sh_syntax.specs.declared.tree.CommandKind.{CommandKind}
-use Rattle.sh_syntax.specs.declared.tree.Pipeline.{Pipeline}
-use Rattle.sh_syntax.specs.declared.tree.Item.{Item}
-use Rattle.sh_syntax.specs.declared.tree.Joint.{Joint}
-use Rattle.sh_syntax.specs.declared.tree.Joint.TheVariants.{And, Or}
-use Rattle.sh_syntax.specs.declared.tree.Script.{Script}
-use Rattle.sh_syntax.specs.declared.tree.CaseItem.{CaseItem}
-use Rattle.sh_syntax.specs.View.{view, view_part, view_word, view_redirect, view_assign, view_command, view_kind, view_pipeline, view_item, view_case_item, view_operator, parts_of, words_of}
 use Rattle.sh_parser.specs.declared.notes.Notes.{Notes}
 use Rattle.sh_parser.specs.declared.open_sum.Sum.{Sum}
 use Rattle.sh_parser.specs.Owing.{owed_of}

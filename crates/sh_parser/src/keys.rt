@@ -7,7 +7,7 @@ ghost use Rattle.sh_parser.specs.Kinds as kinds;
 use crate::class::{Context, unit_starts};
 use crate::gaps::gap;
 use crate::runs::{Run, run_end, run_is};
-use crate::tokens::{Op, is_token};
+use crate::tokens::{Op, begins_redirect, is_token, token};
 
 #[derive(Clone, Copy, Debug, PartialEq)]
 pub enum Key {
@@ -113,16 +113,10 @@ pub fn copy_next(bytes: &[u8]) -> bool
 }
 
 /// Whether a redirection comes next.
-#[tactic(auto, unfolding(sh_grammar::specs::Tokens::redirect_next))]
 pub fn redirect_next(bytes: &[u8]) -> bool
     ensures { result ≡ tokens.redirect_next bytes.now }
 {
-    is_token(Op::Io, bytes)
-        || is_token(Op::Less, bytes)
-        || is_token(Op::Great, bytes)
-        || is_token(Op::DGreat, bytes)
-        || here_next(bytes)
-        || copy_next(bytes)
+    begins_redirect(token(bytes).0)
 }
 
 /// Whether a word comes next that is no reserved word.

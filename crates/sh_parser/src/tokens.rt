@@ -6,7 +6,7 @@ ghost use Rattle.sh_grammar.specs.Bytes.{starts, digit_run, in_word};
 ghost use Rattle.sh_grammar.specs.Bytes as bytes_of;
 ghost use Rattle.sh_grammar.specs.Tokens as tokens;
 ghost use Rattle.sh_grammar.specs.Tokens.{goes_on_with, Other as other, SemiSemi as semi_semi};
-ghost use Rattle.sh_parser.specs.Kinds.{op};
+ghost use Rattle.sh_parser.specs.Kinds.{op, redirect_op};
 
 use crate::class::{Context, is_digit, unit_starts};
 use crate::gaps::{clear, gap};
@@ -261,6 +261,19 @@ fn code(token: Op) -> u8
         Op::Io => 16,
         Op::Word => 17,
         Op::Other => 18,
+    }
+}
+
+/// Whether a redirection begins with this token.
+#[tactic(auto, unfolding(sh_grammar::specs::Tokens::code))]
+pub fn begins_redirect(token: Op) -> bool
+    ensures { result ≡ redirect_op (op token) }
+{
+    match token {
+        Op::Less | Op::Great | Op::DGreat | Op::DLess | Op::DLessDash => true,
+        Op::LessAnd | Op::GreatAnd | Op::Io => true,
+        Op::End | Op::Newline | Op::Semi | Op::SemiSemi | Op::AndIf | Op::OrIf => false,
+        Op::Pipe | Op::Open | Op::Close | Op::Word | Op::Other => false,
     }
 }
 

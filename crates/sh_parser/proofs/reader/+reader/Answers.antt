@@ -1,26 +1,13 @@
-use Rattle.std.proofs.Common.{◌≡◌, ◌==◌, ◌<◌, ◌≤◌, ◌+◌, ℕ, Bool, true, false, List, [], ◌∷◌, length, Option, Some, None, refl, sym, ap, subst, ◌∙◌, arith}
+use Rattle.std.proofs.Common.{◌≡◌, [], ◌∷◌, length, ◌∙◌, arith}
 use Rattle.std.proofs.lemmas.Bool.Decides.{nat_tests}
 use Rattle.std.proofs.lemmas.Result.{err_from_is_err_and}
-use Rattle.text_grammar.specs.Answers.{FailsAs}
-use Rattle.text_grammar.specs.Language.{one_if}
-use Rattle.text_grammar.specs.Ranks.{takes}
-use Rattle.text_grammar.specs.Grammar.{rule, star}
-use Rattle.text_grammar.specs.Values.{vals, behind}
-use Rattle.sh_grammar.specs.Depths.{ranks}
-use Rattle.sh_grammar.specs.Steps.{holds}
-use Rattle.sh_grammar.specs.State.{State, start_at}
-use Rattle.sh_grammar.specs.Spelling.{sh}
-use Rattle.sh_grammar.specs.Table.{body_parts}
 use Rattle.sh_syntax.specs.View.{view_word, view_operator}
-use Rattle.sh_parser.specs.Answers.{Gives, is_memory}
+use Rattle.sh_parser.specs.Answers.{is_memory}
 use Rattle.sh_parser.specs.Owing.{owed_of}
-use Rattle.sh_parser.specs.Tables as tables
-use Rattle.sh_parser.specs.Tables.{items_gram, unit}
 use Rattle.sh_parser.specs.Values.{value_node, nodes}
 use Rattle.sh_parser.specs.declared.tasks.Task.TheVariants.{Here}
 use Rattle.sh_parser.specs.Views.{known, state}
-use Rattle.sh_parser.specs.declared.table.Item.TheVariants as items
-use Rattle.sh_parser.proofs.Documents.{front_fails, body_fails, here_done, known_body, owed_more, no_levels, first_fails, once, second_is, second_fails, twice}
+use Rattle.sh_parser.proofs.Documents.{front_fails, body_fails, here_done, known_body, owed_more, no_levels, first_fails, once, second_fails, twice}
 use Rattle.sh_parser.proofs.Stack.{taken, taken_here, none_left, taken_ready, begins, nothing_ready, ends, turned, turn_fails, here_fails, here_read}
 use Rattle.sh_parser.proofs.reader.+reader.Goals as goal
 

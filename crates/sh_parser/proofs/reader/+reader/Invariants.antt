@@ -1,5 +1,5 @@
 -- How the functions of the reader get ahead: a body is read with fewer levels of bodies.
-use Rattle.std.proofs.Common.{◌≡◌, ℕ, ◌+◌, ◌*◌, true}
+use Rattle.std.proofs.Common.{◌≡◌, ◌+◌, ◌*◌, true}
 use Rattle.text_grammar.specs.Grammar.{rule}
 use Rattle.text_grammar.specs.Values.{vals}
 use Rattle.sh_grammar.specs.Spelling.{sh}

@@ -1,5 +1,4 @@
-use Rattle.std.proofs.Common.{◌≡◌, ◌+◌, ◌∙◌, arith}
-use Rattle.std.proofs.lemmas.Bool.Decides.{nat_tests}
+use Rattle.std.proofs.Common.{◌+◌, ◌∙◌, arith}
 use Rattle.sh_parser.proofs.Known.{nth_beyond, nth_known}
 use Rattle.sh_parser.proofs.redirects.body_of.Goals as goal
 

@@ -1,4 +1,4 @@
-use Rattle.std.proofs.Common.{◌≡◌, ℕ, [], length, Option, sym, subst, ◌∙◌, arith}
+use Rattle.std.proofs.Common.{◌≡◌, [], length, subst, arith}
 use Rattle.std.proofs.lemmas.Bool.Decides.{nat_tests}
 use Rattle.std.proofs.lemmas.Result.{err_from_is_err_and}
 use Rattle.text_grammar.specs.Grammar.{rule}
@@ -7,7 +7,7 @@ use Rattle.text_grammar.specs.Answers.{FailsAs}
 use Rattle.sh_grammar.specs.State.{State}
 use Rattle.sh_grammar.specs.Table.{piece}
 use Rattle.sh_grammar.specs.Spelling.{sh_with}
-use Rattle.sh_parser.specs.Answers.{Gives, is_memory}
+use Rattle.sh_parser.specs.Answers.{is_memory}
 use Rattle.sh_parser.specs.Values.{nodes}
 use Rattle.sh_parser.specs.Views.{state}
 use Rattle.sh_parser.proofs.Turns.{next_fails, next_again, next_plain, gives_seen}

@@ -1,4 +1,4 @@
-use Rattle.std.proofs.Common.{◌≡◌, ◌++◌, None, sym, subst, ◌∙◌}
+use Rattle.std.proofs.Common.{◌≡◌, ◌++◌, None, subst}
 use Rattle.text_grammar.proofs.Tools.{some_is}
 use Rattle.sh_grammar.specs.State.{chains_in}
 use Rattle.sh_syntax.specs.View.{view}

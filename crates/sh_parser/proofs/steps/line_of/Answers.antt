@@ -1,4 +1,4 @@
-use Rattle.std.proofs.Common.{arith, length}
+use Rattle.std.proofs.Common.{arith}
 use Rattle.std.specs.Prelude.{map}
 use Rattle.sh_parser.specs.Owing.{owed_of}
 use Rattle.sh_parser.specs.Views.{state}

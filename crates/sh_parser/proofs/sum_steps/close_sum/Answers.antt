@@ -1,4 +1,3 @@
-use Rattle.std.proofs.Common.{◌≡◌}
 use Rattle.std.proofs.lemmas.Result.{err_from_is_err_and}
 use Rattle.sh_grammar.specs.Steps.{run_step}
 use Rattle.sh_grammar.specs.Expansions.{behind_two}

@@ -1,4 +1,4 @@
-use Rattle.std.proofs.Common.{◌≡◌, false, List, ◌∷◌, Some, None, length, reverse, sym, ap, ◌∙◌}
+use Rattle.std.proofs.Common.{◌≡◌, false, ◌∷◌, Some, None, reverse, sym, ap, ◌∙◌}
 use Rattle.std.specs.Prelude.{map}
 use Rattle.sh_grammar.specs.Sums.{is_sh_expr}
 use Rattle.sh_parser.specs.Views.{state, sum_of}

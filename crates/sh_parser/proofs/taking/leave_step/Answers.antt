@@ -1,4 +1,4 @@
-use Rattle.std.proofs.Common.{◌≡◌, [], Some, sym, ap}
+use Rattle.std.proofs.Common.{[], Some, sym, ap}
 use Rattle.sh_grammar.specs.State.{State}
 use Rattle.sh_grammar.specs.Steps.{run_step}
 use Rattle.sh_parser.proofs.taking.leave_step.Goals as goal

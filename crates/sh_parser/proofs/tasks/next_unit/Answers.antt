@@ -1,10 +1,6 @@
-use Rattle.std.proofs.Common.{◌≡◌, ◌∷◌, ◌++◌, ℕ, Bool, true, false, List, [], Some, refl, sym, ap, subst, ◌∙◌}
+use Rattle.std.proofs.Common.{◌≡◌, ◌∷◌, true, List, sym, subst, ◌∙◌}
 use Rattle.text_grammar.proofs.Tools.{some_is}
-use Rattle.sh_parser.specs.declared.table.Item.TheVariants as items
-use Rattle.sh_parser.specs.Tables as tables
 use Rattle.sh_parser.specs.Tasks.{Todo, todos, then_items, all_ready}
-use Rattle.sh_parser.specs.Values.{nodes}
-use Rattle.sh_parser.specs.Views.{state}
 use Rattle.sh_parser.proofs.Depths.{items_ready, rest_ready, star_ready}
 use Rattle.sh_parser.proofs.Turning.{popped, if_turn, where_turn, where_stops}
 use Rattle.sh_parser.proofs.tasks.next_unit.Goals as goal

@@ -1,8 +1,5 @@
-use Rattle.std.proofs.Common.{◌≡◌, ◌∷◌, ◌++◌, ℕ, Bool, true, false, List, [], Some, refl, sym, ap, subst, ◌∙◌}
-use Rattle.text_grammar.proofs.Tools.{some_is}
-use Rattle.sh_parser.specs.declared.table.Item.TheVariants as items
-use Rattle.sh_parser.specs.Tables as tables
-use Rattle.sh_parser.specs.Tasks.{Todo, todos, then_items, all_ready}
+use Rattle.std.proofs.Common.{sym, ◌∙◌}
+use Rattle.sh_parser.specs.Tasks.{todos}
 use Rattle.sh_parser.specs.Values.{nodes}
 use Rattle.sh_parser.specs.Views.{state}
 use Rattle.sh_parser.proofs.Turning.{unless_fails, unless_goes}
