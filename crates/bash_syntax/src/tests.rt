@@ -57,8 +57,8 @@ fn script(alloc: Global, kind: CommandKind, at: Span) -> Result<Script, Memory> 
     Ok(Script { items })
 }
 
-/// `[[ -n ${a[1]} ]]`, where the name stands at this offset.
-fn test_of_member(alloc: Global, at: u32) -> Result<Script, Memory> {
+/// `[[ -n ${a[1]} ]]`, where the name has this span.
+fn test_of_member(alloc: Global, at: Span) -> Result<Script, Memory> {
     let expr = Arith {
         expr: Expr::Constant(1),
         operands: List::new(alloc),
@@ -72,7 +72,7 @@ fn test_of_member(alloc: Global, at: u32) -> Result<Script, Memory> {
         span: span(9, 12),
     };
     let param = Param::Member(
-        name(alloc, b"a", span(at, at + 1))?,
+        name(alloc, b"a", at)?,
         Boxed::new(alloc, sub)?,
     );
     let part = PartKind::Param {
@@ -117,7 +117,7 @@ fn assigned_list(alloc: Global) -> Result<Script, Memory> {
 #[test]
 fn equal_trees_are_equal(rt: HostRuntime) -> Result<(), Fail> {
     let alloc = rt.alloc();
-    assert!(rt; test_of_member(alloc, 8)? == test_of_member(alloc, 8)?);
+    assert!(rt; test_of_member(alloc, span(8, 9))? == test_of_member(alloc, span(8, 9))?);
     assert!(rt; assigned_list(alloc)? == assigned_list(alloc)?);
     Ok(())
 }
@@ -125,7 +125,7 @@ fn equal_trees_are_equal(rt: HostRuntime) -> Result<(), Fail> {
 #[test]
 fn other_trees_and_places_are_not(rt: HostRuntime) -> Result<(), Fail> {
     let alloc = rt.alloc();
-    assert!(rt; test_of_member(alloc, 8)? != assigned_list(alloc)?);
-    assert!(rt; test_of_member(alloc, 8)? != test_of_member(alloc, 7)?);
+    assert!(rt; test_of_member(alloc, span(8, 9))? != assigned_list(alloc)?);
+    assert!(rt; test_of_member(alloc, span(8, 9))? != test_of_member(alloc, span(7, 8))?);
     Ok(())
 }
