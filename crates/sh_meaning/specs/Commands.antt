@@ -53,7 +53,7 @@ or_zero (next_chain c more) run n s = run n s
 
 -- the one where the last command succeeded, else the other
 abbrev pub by_status : Do Flow Own → Do Flow Own → Do Flow Own
-by_status yes no n s = choose (succeeded s.own) yes no n s
+by_status then_run else_run n s = choose (succeeded s.own) then_run else_run n s
 
 -- then run, and then the next
 abbrev pub first_then : Do Flow Own → Do Flow Own → Do Flow Own
@@ -84,7 +84,7 @@ abbrev pub subject_over : (Text → Do Flow Own) → Expanded → Do Flow Own
 subject_over items e n s = items (text_of e) n s
 
 abbrev pub subject_run : Do Expanded Own → (Text → Do Flow Own) → Do Flow Own
-subject_run word items n s = after (word n s) (subject_over items)
+subject_run subject items n s = after (subject n s) (subject_over items)
 
 -- behind the patterns of an item
 abbrev pub item_over : Do Flow Own → Do Flow Own → Bool → Do Flow Own

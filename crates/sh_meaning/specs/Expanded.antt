@@ -63,8 +63,8 @@ with_quote e = if e.missing then e else record e { now = e.now ++ Quote ∷ [] }
 -- ---- lists (2.5.2)
 
 abbrev pub member_items : Mode → Text → List Item
-member_items (Bare use mark) text = marked Value text
-member_items (Double use) text = quoted_items text
+member_items (Bare purpose mark) text = marked Value text
+member_items (Double purpose) text = quoted_items text
 
 -- each member behind the first begins a text
 abbrev pub with_more : Mode → List Text → Expanded → Expanded
@@ -73,8 +73,8 @@ with_more mode (text ∷ more) e = with_more mode more (record e { before = e.be
 
 -- no member: only a quoted list without members is told from nothing
 abbrev pub without_members : Mode → Expanded → Expanded
-without_members (Bare use mark) e = record e { other = true }
-without_members (Double use) e = record e { missing = true }
+without_members (Bare purpose mark) e = record e { other = true }
+without_members (Double purpose) e = record e { missing = true }
 
 -- what stands before is joined to the first member, and what follows to the last
 abbrev pub with_members : Mode → List Text → Expanded → Expanded

@@ -46,8 +46,8 @@ has_doubtful_tilde First text = begins_tilde text || has_tilde false text
 has_doubtful_tilde Later text = has_tilde false text
 
 abbrev pub plain_is_clear : Mode → Where → Text → Bool
-plain_is_clear (Bare use mark) place text = not (has_doubtful_tilde place text)
-plain_is_clear (Double use) place text = true
+plain_is_clear (Bare purpose mark) place text = not (has_doubtful_tilde place text)
+plain_is_clear (Double purpose) place text = true
 
 abbrev pub plain_run : Mode → Where → Text → Expanded → Do Expanded Own
 plain_run mode place text e n s = choose (plain_is_clear mode place text) (is (with_plain mode text e)) unspecified n s

@@ -3,58 +3,58 @@ use Rattle.std.specs.Prelude.{Bool, true, false}
 use Rattle.span_text.specs.declared.flagged.Mark.{Mark}
 use Rattle.span_text.specs.declared.flagged.Mark.TheVariants.{Written, Quoted, Value}
 
-pub data Use : Type 0 where
+pub data Purpose : Type 0 where
   -- fields: the words of a command, and of `for`
-  Fields : Use
+  Fields : Purpose
   -- one text: the value of an assignment, the word of `case`, a pattern, the word of a redirection
-  Single : Use
+  Single : Purpose
   -- one text: the body of a here-document, where all stands as between double quotes (2.7.4)
-  Body : Use
+  Body : Purpose
   -- one text: an expansion in arithmetic (2.6.4)
-  Operand : Use
+  Operand : Purpose
 
 pub data Mode : Type 0 where
   -- unquoted; the mark is that of bytes that stand for themselves, which in the word of `${a-w}` are its value
-  Bare : Use → Mark → Mode
+  Bare : Purpose → Mark → Mode
   -- between double quotes
-  Double : Use → Mode
+  Double : Purpose → Mode
 
 -- bytes that stand for themselves
 abbrev pub plain_mark : Mode → Mark
-plain_mark (Bare use mark) = mark
-plain_mark (Double use) = Quoted
+plain_mark (Bare purpose mark) = mark
+plain_mark (Double purpose) = Quoted
 
 -- the bytes of an expansion
 abbrev pub value_mark : Mode → Mark
-value_mark (Bare use mark) = Value
-value_mark (Double use) = Quoted
+value_mark (Bare purpose mark) = Value
+value_mark (Double purpose) = Quoted
 
 -- between the double quotes of `".."`
-abbrev pub use_in_quotes : Use → Use
-use_in_quotes Fields = Fields
-use_in_quotes Single = Single
-use_in_quotes Body = Body
-use_in_quotes Operand = Single
+abbrev pub purpose_in_quotes : Purpose → Purpose
+purpose_in_quotes Fields = Fields
+purpose_in_quotes Single = Single
+purpose_in_quotes Body = Body
+purpose_in_quotes Operand = Single
 
 abbrev pub in_quotes : Mode → Mode
-in_quotes (Bare use mark) = Double (use_in_quotes use)
-in_quotes (Double use) = Double (use_in_quotes use)
+in_quotes (Bare purpose mark) = Double (purpose_in_quotes purpose)
+in_quotes (Double purpose) = Double (purpose_in_quotes purpose)
 
 -- the word of `${a-w}` and of `${a+w}`
 abbrev pub in_fill : Mode → Mode
-in_fill (Bare use mark) = Bare use Value
-in_fill (Double use) = Double use
+in_fill (Bare purpose mark) = Bare purpose Value
+in_fill (Double purpose) = Double purpose
 
 -- the word of `${a=w}`, which is assigned
-abbrev pub single : Use → Use
+abbrev pub single : Purpose → Purpose
 single Fields = Single
 single Single = Single
 single Body = Body
 single Operand = Operand
 
 abbrev pub in_assigning : Mode → Mode
-in_assigning (Bare use mark) = Bare (single use) Value
-in_assigning (Double use) = Double (single use)
+in_assigning (Bare purpose mark) = Bare (single purpose) Value
+in_assigning (Double purpose) = Double (single purpose)
 
 -- the pattern of `${a%w}`, and one of `case`, has quotes of its own
 abbrev pub in_pattern : Mode
