@@ -1,2 +1,4 @@
 pub mod Meaning
+pub mod Own
 pub mod Variables
+pub mod builtins
