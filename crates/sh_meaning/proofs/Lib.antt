@@ -1,1 +1,4 @@
 pub mod Bounds
+pub mod Grown
+pub mod Simples
+pub mod Steps

@@ -1,10 +1,10 @@
 -- Redirections of sh (POSIX XCU 2.7).
-use Rattle.std.specs.Prelude.{ℕ, ◌-◌, ◌==◌, Bool, true, false, if◌then◌else◌, List, [], ◌∷◌, Option, Some, None}
+use Rattle.std.specs.Prelude.{ℕ, ◌-◌, ◌==◌, Bool, true, false, List, [], ◌∷◌, Option, Some, None}
 use Rattle.shell_world.specs.declared.world.World.{World}
 use Rattle.shell_world.specs.Texts.{Text}
 use Rattle.shell_world.specs.Opening.{Opened, read_opened, write_opened, text_opened}
 use Rattle.shell_world.specs.Outside.{Outside}
-use Rattle.shell_world.specs.Runs.{St, Ends, Do, after}
+use Rattle.shell_world.specs.Runs.{St, Ends, Do, after, choose}
 use Rattle.shell_runs.specs.Flow.{Flow}
 use Rattle.shell_runs.specs.Sequences.{now, unspecified}
 use Rattle.shell_runs.specs.Redirecting.{Made, Done, Failed, opened_run, copied_run, closed_run, redirected, bracketed}
@@ -66,7 +66,7 @@ literal_run ran fd text n s = opened_run fds_of with_fds ran fd (text_opened tex
 -- `<&d`, `<&-`
 abbrev pub copy_run : Bool → ℕ → Text → Do (Made Bool) Own
 copy_run ran fd [] n s = closed_run fds_of with_fds ran fd n s
-copy_run ran fd (b ∷ bs) n s = if b == 45 then closed_run fds_of with_fds ran fd n s else copied_run fds_of with_fds ran fd (b - 48) n s
+copy_run ran fd (b ∷ bs) n s = choose (b == 45) (closed_run fds_of with_fds ran fd) (copied_run fds_of with_fds ran fd (b - 48)) n s
 
 -- one redirection, whose word is expanded by w; the words of copies and of bodies that aren't expanded are taken as they are
 abbrev pub redirect_run : Bool → ℕ → RedirectOp → Parts → Do Expanded Own → Do (Made Bool) Own
