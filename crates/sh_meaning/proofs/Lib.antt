@@ -1,4 +1,5 @@
 pub mod Bounds
 pub mod Grown
+pub mod Larger
 pub mod Simples
 pub mod Steps
