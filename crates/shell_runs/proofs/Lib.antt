@@ -1,2 +1,3 @@
 pub mod Combined
 pub mod Monotone
+pub mod Unrolled

@@ -15,7 +15,7 @@ turns_left (Ends x s n) = n
 turns_left (GoesOn t n) = n
 turns_left (Unspecified t n) = n
 
--- what a run that was given n turns says of one that was given m, which aren't fewer: an end is the same, and as many turns more are left
+-- What a run that was given n turns says of one that was given m, which aren't fewer: an end is the same, and as many turns more are left
 abbrev pub Later : {X S : Type 0} → ℕ → ℕ → Res X S → Res X S → Type 0
 Later n m (Ends x s r) o = (q : ℕ) × (o ≡ Ends x s q) × (r + m ≡ q + n)
 Later n m (GoesOn t r) o = IsPrefix t (record_of o)
@@ -26,6 +26,10 @@ pub record Under {X S : Type 0} (c c' : Do X S) : Type 0 where
   pub later : (n m : ℕ) (s : St S) → n ≤ m → Later n m (c n s) (c' m s)
   pub grows : (m : ℕ) (s : St S) → IsPrefix s.trace (record_of (c' m s))
   pub spends : (n : ℕ) (s : St S) → turns_left (c n s) ≤ n
+
+-- a run gives no turn back
+abbrev pub Spends : {X S : Type 0} → Do X S → Type 0
+Spends {X} {S} c = (n : ℕ) (s : St S) → turns_left (c n s) ≤ n
 
 -- the same of whole runs
 abbrev pub OutcomeLater : Outcome → Outcome → Type 0
