@@ -1,5 +1,6 @@
 pub mod Arithmetic
 pub mod Commands
+pub mod Examples
 pub mod Expanded
 pub mod Expanding
 pub mod Lists
