@@ -1,16 +1,14 @@
 -- A built-in only lengthens the record.
-use Rattle.std.proofs.Common.{◌≡◌, ℕ, List, [], ◌∷◌, ◌==◌, Bool, true, false, not, ◌&&◌, Option, Some, None, Result, Ok, Err, refl, length, ◌≤◌, arith}
+use Rattle.std.proofs.Common.{ℕ, List, [], ◌∷◌, Bool, true, false, Option, Some, None, refl, length, ◌≤◌, arith}
 use Rattle.std.specs.Prelude.{if◌then◌else◌, ◌-◌, drop, codes}
 use Rattle.span_text.specs.KnownNames.{same_text}
 use Rattle.shell_world.specs.Texts.{Text}
-use Rattle.shell_world.specs.Outside.{Trace, written}
-use Rattle.shell_world.specs.Runs.{St, Ends, Unspecified, Do, with_own}
+use Rattle.shell_world.specs.Outside.{Trace}
+use Rattle.shell_world.specs.Runs.{St}
 use Rattle.shell_world.specs.Ends.{IsPrefix}
 use Rattle.shell_world.proofs.Monotone.{prefix_refl}
 use Rattle.shell_world.proofs.Records.{written_grows}
-use Rattle.shell_runs.specs.Flow.{Flow}
 use Rattle.shell_runs.specs.Bounds.{Later, Under, record_of, turns_left}
-
 use Rattle.sh_meaning.specs.declared.builtin.Builtin.{Builtin}
 use Rattle.sh_meaning.specs.declared.builtin.Builtin.TheVariants as builtin
 use Rattle.sh_meaning.specs.Own.{Own}
@@ -21,7 +19,7 @@ use Rattle.sh_meaning.specs.builtins.Jumps.{break_run, continue_run, return_run,
 use Rattle.sh_meaning.specs.builtins.Names.{builtin_of}
 use Rattle.sh_meaning.specs.builtins.Parameters.{set_run, shift_run}
 use Rattle.sh_meaning.specs.builtins.Places.{Place}
-use Rattle.sh_meaning.specs.builtins.Printing.{prints_some, printf_output, echo_output, printf_run, echo_run}
+use Rattle.sh_meaning.specs.builtins.Printing.{prints_some, printf_output, echo_output}
 use Rattle.sh_meaning.specs.builtins.Reading.{can_read, reads, read_names, read_run}
 use Rattle.sh_meaning.specs.builtins.Testing.{tested, ends_tested, test_run, is_closing, before_last, bracket_run}
 use Rattle.sh_meaning.specs.builtins.Variables.{export_run, unset_run}
@@ -85,7 +83,7 @@ builtin_grown place form name args s = of_grown place form (builtin_of name) arg
 
 -- ---- as a run
 
-finished_under : (o : Own) (e : Ending) (s : St Own) → Grown s.trace e → (n m : ℕ) → Later n m (finished (in_own o e) n s) (finished (in_own o e) m s) 
+finished_under : (o : Own) (e : Ending) (s : St Own) → Grown s.trace e → (n m : ℕ) → Later n m (finished (in_own o e) n s) (finished (in_own o e) m s)
 finished_under o None s h n m = (m, refl)
 finished_under o (Some x) s h n m = (m, refl, omega arith)
 

@@ -1,25 +1,24 @@
 -- Larger bounds change nothing of a script's run that is over, and only lengthen the record of one that goes on.
-use Rattle.std.proofs.Common.{ℕ, zero, suc, ◌≤◌, List, [], ◌∷◌, Bool, true, false, not, Option, Some, None, arith}
+use Rattle.std.proofs.Common.{ℕ, zero, suc, ◌≤◌, List, [], ◌∷◌, Bool, true, false, arith}
 use Rattle.span_text.specs.KnownNames.{is_known_command}
 use Rattle.shell_world.specs.Texts.{Text}
-use Rattle.shell_world.specs.Runs.{St, Ends, Do, after, choose, with_own}
+use Rattle.shell_world.specs.Runs.{Do, choose}
 use Rattle.shell_world.proofs.Monotone.{prefix_refl}
 use Rattle.shell_runs.specs.Flow.{Flow, Normal}
-use Rattle.shell_runs.specs.Sequences.{if_normal, now, unspecified}
 use Rattle.shell_runs.specs.Redirecting.{Made, Done}
 use Rattle.shell_runs.specs.Bounds.{Under}
-use Rattle.shell_runs.proofs.Monotone.{under_from, under_after, under_is, under_own, under_unspecified, under_stop, under_choose, under_by}
+use Rattle.shell_runs.proofs.Monotone.{under_after, under_is, under_unspecified, under_stop, under_choose, under_by}
 use Rattle.shell_runs.proofs.Combined.{under_flow, under_if_normal, under_now, under_loop, under_items, under_if_made, under_shell, under_substitute, under_stage, under_piped}
 use Rattle.sh_grammar.specs.Shape as shape
 use Rattle.sh_grammar.specs.Shape.{Part, plain, exact, double, tilde, param, subst, arith as sum, Parts, no_part, part, ParamOp, as_is, length_of, fill, trim, Words, no_word, word, Value, no_value, value, Assigns, no_assign, assign, Redirects, no_redirect, redirect, Command, command, Kind, simple, group, subshell, branching, loop, walk, cases, function, Branches, no_branch, branch, Otherwise, no_else, otherwise, ForWords, parameters, listed, Items, no_item, item, Stages, no_stage, stage, Pipeline, pipeline, Links, no_link, and_link, or_link, Chain, chain, Script, no_chain, next_chain}
-use Rattle.sh_meaning.specs.Own.{Own, status_of, with_status, fds_of, with_fds, succeeded, assigned, defined, arguments}
+use Rattle.sh_meaning.specs.Own.{Own, status_of, with_status, fds_of, with_fds, succeeded, assigned, defined}
 use Rattle.sh_meaning.specs.Modes.{Mode, in_quotes, in_fill, in_assigning, in_pattern, in_value, in_operand}
 use Rattle.sh_meaning.specs.Expanded.{Expanded, nothing, with_exact, text_of}
 use Rattle.sh_meaning.specs.Arithmetic.{behind_signs}
 use Rattle.sh_meaning.specs.Expanding.{Where, First, Later, Operands, no_operands, Fielded, no_fields, Arguments}
 use Rattle.sh_meaning.specs.Lists.{is_entangled}
 use Rattle.sh_meaning.specs.Redirecting.{fd_of, redirect_mode}
-use Rattle.sh_meaning.specs.Simple.{Setting, Calls, Role, Name, Argument, word_mode, role_behind, Saved, saved_names, prefix_value, form_of, has_assigns}
+use Rattle.sh_meaning.specs.Simple.{Setting, Calls, Role, Name, Argument, word_mode, role_behind, Saved, saved_names, form_of, has_assigns}
 use Rattle.sh_meaning.specs.builtins.Places.{Place}
 use Rattle.sh_meaning.specs.Commands.{in_loop, in_shell_place, in_body, negated, negated_run, or_zero, by_status, first_then, goes, defined_run, walk_by, walk_over, walk_run, subject_over, subject_run, item_over, item_run, part_run, parts_run, op_run, operands_run, words_run, for_words_run, patterns_run, value_run, assigns_run, prefix_run, redirects_run, command_run, kind_run, branches_run, otherwise_run, items_run_from, stages_run, piped_run, pipeline_run, links_run, chain_run, script_run, level}
 use Rattle.sh_meaning.proofs.Steps.{plain_under, quoted_over_under, tilde_under, subst_over_under, param_under, length_under, fill_under, trim_under, operand_under, sum_over_under, checked_under, pathnames_under, pattern_under, unmatched_under, redirect_under, failed_under, around_under}

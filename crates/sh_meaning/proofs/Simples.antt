@@ -1,23 +1,23 @@
 -- The law of bounds for the steps of simple commands.
-use Rattle.std.proofs.Common.{ℕ, List, [], ◌∷◌, Bool, true, false, Option, Some, None}
+use Rattle.std.proofs.Common.{List, [], ◌∷◌, Bool, true, false}
 use Rattle.shell_world.specs.declared.world.World.{World}
 use Rattle.shell_world.specs.Texts.{Text, lookup}
-use Rattle.shell_world.specs.Runs.{St, Ends, Do, after, choose, with_own}
+use Rattle.shell_world.specs.Runs.{Do}
 use Rattle.shell_world.proofs.Records.{called_grows}
 use Rattle.shell_runs.specs.Flow.{Flow, Normal}
 use Rattle.shell_runs.specs.Redirecting.{Made}
 use Rattle.shell_runs.specs.Bounds.{Under}
-use Rattle.shell_runs.proofs.Monotone.{under_from, under_after, under_ends, under_is, under_own, under_unspecified, under_choose, under_by}
+use Rattle.shell_runs.proofs.Monotone.{under_after, under_ends, under_own, under_unspecified, under_choose, under_by}
 use Rattle.shell_runs.proofs.Combined.{under_flow, under_now, under_call}
 use Rattle.sh_grammar.specs.Shape.{Parts, Command}
 use Rattle.sh_meaning.specs.Variables.{environment}
 use Rattle.sh_meaning.specs.Own.{Own, with_status, assigned, with_arguments, parameters_back}
 use Rattle.sh_meaning.specs.Expanded.{Expanded, text_of}
-use Rattle.sh_meaning.specs.Expanding.{Fielded, Arguments, fields_over, operand_field_over}
+use Rattle.sh_meaning.specs.Expanding.{Fielded, Arguments}
 use Rattle.sh_meaning.specs.builtins.Export.{is_export_operand}
 use Rattle.sh_meaning.specs.builtins.Forms.{Form}
 use Rattle.sh_meaning.specs.builtins.Places.{Place}
-use Rattle.sh_meaning.specs.Simple.{Setting, Calls, Role, Name, Argument, Export, word_over, word_fits, fitting_run, word_run, assigned_over, assigned_run, nameless_over, nameless_run, Saved, exported, prefix_over, prefix_value, restored, prefix_back, command_over, prefixed, external_run, Found, Special, Builtin, Function, External, Foreign, found, behind, call_run, found_run, simple_by, simple_over}
+use Rattle.sh_meaning.specs.Simple.{Setting, Calls, Role, Name, Argument, Export, word_over, word_fits, fitting_run, word_run, assigned_over, assigned_run, nameless_over, nameless_run, Saved, exported, prefix_over, prefix_value, restored, prefix_back, command_over, prefixed, external_run, Found, Special, Builtin, Function, External, Foreign, found, call_run, found_run, simple_by, simple_over}
 use Rattle.sh_meaning.proofs.Steps.{checked_under, fields_over_under, operand_field_under, failed_under, around_under}
 use Rattle.sh_meaning.proofs.Grown.{builtin_under}
 
@@ -83,7 +83,7 @@ module _ (z : Setting) (c d : Calls) (uc : (k : Command) → Under (c k) (d k)) 
     simple_by_under [] ran = around_under (rs ran) (rs' ran) _ _ _ _ (ur ran) (nameless_under as' bs' ua) (failed_under z.world)
     simple_by_under (name ∷ args) ran =
         under_by (λ s. found_run z c place form (rs ran) p led name args (found name s.own)) (λ s. found_run z d place form (rs' ran) p' led name args (found name s.own))
-          (λ s. found_under (rs ran) (rs' ran) p p' (ur ran) up name args (found name s.own))
+        (λ s. found_under (rs ran) (rs' ran) p p' (ur ran) up name args (found name s.own))
 
     pub simple_under : (a : Arguments) → Under (simple_over z c place form rs as' p led a) (simple_over z d place form rs' bs' p' led a)
     simple_under a = simple_by_under a.texts a.ran

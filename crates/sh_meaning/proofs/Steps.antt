@@ -1,34 +1,28 @@
 -- The law of bounds for each step of expanding a word, of a redirection, and of a simple command.
-use Rattle.std.proofs.Common.{◌≡◌, ℕ, zero, suc, ◌+◌, ◌≤◌, List, [], ◌∷◌, ◌++◌, ◌==◌, ◌||◌, Bool, true, false, not, Option, Some, None, is_some, length, refl, sym, ap, subst, arith, ℤ}
+use Rattle.std.proofs.Common.{ℕ, List, [], ◌∷◌, ◌++◌, ◌==◌, ◌||◌, Bool, true, false, Option, Some, None, is_some, length, ℤ}
 use Rattle.std.specs.Prelude.{decimal, ◌-◌}
 use Rattle.span_text.specs.declared.expr.Expr.{Expr}
 use Rattle.glob_pattern.specs.declared.sign.Use.TheVariants as use_of
-use Rattle.glob_pattern.specs.Reading.{doubt_of, pieces_of}
-use Rattle.glob_pattern.specs.Pieces.{matches}
+use Rattle.glob_pattern.specs.Reading.{doubt_of}
 use Rattle.shell_world.specs.declared.world.World.{World}
-use Rattle.shell_world.specs.Texts.{Text, lookup}
-use Rattle.shell_world.specs.Outside.{Trace, Fds}
+use Rattle.shell_world.specs.Texts.{Text}
 use Rattle.shell_world.specs.Opening.{text_opened}
-use Rattle.shell_world.specs.Runs.{St, Res, Ends, GoesOn, Unspecified, Do, after, choose, with_own}
-use Rattle.shell_world.specs.Ends.{IsPrefix}
-use Rattle.shell_world.proofs.Monotone.{prefix_refl}
-use Rattle.shell_world.proofs.Records.{called_grows, written_grows}
-use Rattle.shell_runs.specs.Flow.{Flow, Normal}
-use Rattle.shell_runs.specs.Sequences.{now, unspecified}
-use Rattle.shell_runs.specs.Redirecting.{Made, Done, Failed, closed_run, copied_run}
+use Rattle.shell_world.specs.Runs.{Do, choose}
+use Rattle.shell_runs.specs.Flow.{Flow}
+use Rattle.shell_runs.specs.Sequences.{unspecified}
+use Rattle.shell_runs.specs.Redirecting.{Made}
 use Rattle.shell_runs.specs.Bounds.{Under}
-use Rattle.shell_runs.proofs.Monotone.{under_from, under_after, under_ends, under_keeps, under_is, under_own, under_unspecified, under_choose, under_by}
-use Rattle.shell_runs.proofs.Combined.{under_flow, under_now, under_opened, under_copied, under_closed, under_redirected, under_bracketed, under_call}
-use Rattle.sh_grammar.specs.Shape.{Param, named, digits, count, status, at, star, FillTest, default, assigning, alternate, RedirectOp, read, write, append, here_literal, here_expanded, copy_in, copy_out, Parts, Command}
-use Rattle.sh_meaning.specs.Variables.{environment}
-use Rattle.sh_meaning.specs.Own.{Own, fds_of, with_fds, with_status, arguments, assigned, with_arguments, parameters_back}
+use Rattle.shell_runs.proofs.Monotone.{under_from, under_after, under_is, under_own, under_unspecified, under_choose, under_by}
+use Rattle.shell_runs.proofs.Combined.{under_now, under_opened, under_copied, under_closed, under_redirected, under_bracketed}
+use Rattle.sh_grammar.specs.Shape.{Param, named, digits, count, status, at, star, FillTest, default, assigning, alternate, RedirectOp, read, write, append, here_literal, here_expanded, copy_in, copy_out, Parts}
+use Rattle.sh_meaning.specs.Own.{Own, fds_of, with_fds, with_status, assigned}
 use Rattle.sh_meaning.specs.Modes.{Mode, Listing, Members, Joined, Nowhere, listing_at, listing_star}
-use Rattle.sh_meaning.specs.Expanded.{Expanded, with_plain, with_value, with_ran, with_members, with_home, joined_members, is_unclear, fields_of, text_of}
-use Rattle.sh_meaning.specs.Arithmetic.{Sum, evaluated, number_text, operand_number}
-use Rattle.sh_meaning.specs.Parameters.{parameter, parameter_text, home, ifs, is_lacking, has_length, can_trim, trimmed}
+use Rattle.sh_meaning.specs.Expanded.{Expanded, with_plain, with_value, with_ran, is_unclear, fields_of, text_of}
+use Rattle.sh_meaning.specs.Arithmetic.{Sum, evaluated, operand_number}
+use Rattle.sh_meaning.specs.Parameters.{parameter, parameter_text, home, ifs, is_lacking, has_length, can_trim}
 use Rattle.sh_meaning.specs.Lists.{is_list, has_crowded_lists}
 use Rattle.sh_meaning.specs.Pathnames.{texts_of}
-use Rattle.sh_meaning.specs.Expanding.{is, Where, plain_is_clear, plain_run, quoted_over, home_of, tilde_run, subst_over, listed_run, param_run, length_run, assigning_over, assigning_run, nothing_run, is_misassigned, filled_run, fill_run, trim_over, trimmed_run, trim_run, Operands, with_number, operand_over, operand_run, sum_is, sum_over, checked, Fielded, fields_over, operand_field_over, Arguments, arguments_of, pathnames_over, pattern_over, pattern_run, if_unmatched}
+use Rattle.sh_meaning.specs.Expanding.{is, Where, plain_is_clear, plain_run, quoted_over, home_of, tilde_run, subst_over, listed_run, param_run, length_run, assigning_over, assigning_run, nothing_run, is_misassigned, filled_run, fill_run, trim_over, trimmed_run, trim_run, Operands, with_number, operand_over, operand_run, sum_is, sum_over, checked, Fielded, fields_over, operand_field_over, arguments_of, pathnames_over, pattern_over, pattern_run, if_unmatched}
 use Rattle.sh_meaning.specs.Redirecting.{opened_by, redirect_over, worded_run, literal_run, copy_run, redirect_run, failed_run, around, plain_text}
 
 pub is_under : {X : Type 0} (x : X) → Under (is x) (is x)

@@ -30,6 +30,6 @@ itself z d place k = script_larger z (level z d) (level z d) (level_under z d d 
 
 pub script_loop_unrolls : (z : Setting) (d : ℕ) (place : Place) (until : Bool) (test body : Script) (last n : ℕ) (s : St Own) →
     loop_from (goes until) status_of with_status (script_run z (level z d) place test) (script_run z (level z d) place body) last n s
-  ≡ loop_round (goes until) status_of with_status (script_run z (level z d) place test) (script_run z (level z d) place body) (loop_from (goes until) status_of with_status (script_run z (level z d) place test) (script_run z (level z d) place body)) last n s
+    ≡ loop_round (goes until) status_of with_status (script_run z (level z d) place test) (script_run z (level z d) place body) (loop_from (goes until) status_of with_status (script_run z (level z d) place test) (script_run z (level z d) place body)) last n s
 script_loop_unrolls z d place until test body last n s =
     loop_unrolls (goes until) status_of with_status (script_run z (level z d) place test) (script_run z (level z d) place body) (itself z d place test).spends (itself z d place body).spends last n s

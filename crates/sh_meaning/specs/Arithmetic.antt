@@ -1,5 +1,5 @@
 -- What an arithmetic expression gives (POSIX XCU 2.6.4). None is what shells don't agree on: a fault of an operator, a name without a value or whose value is no constant, and operators that sh doesn't have.
-use Rattle.std.specs.Prelude.{ℕ, Bool, true, false, ◌&&◌, ◌||◌, ◌==◌, if◌then◌else◌, not, List, [], ◌∷◌, ◌++◌, Option, Some, None, is_some, Result, Ok, Err, ℤ, pos, int_lt, unsigned_abs, decimal}
+use Rattle.std.specs.Prelude.{ℕ, Bool, true, false, ◌&&◌, ◌||◌, ◌==◌, if◌then◌else◌, not, List, [], ◌∷◌, ◌++◌, Option, Some, None, Result, Ok, Err, ℤ, pos, int_lt, unsigned_abs, decimal}
 use Rattle.std.specs.List.{list_any}
 use Rattle.std.specs.Int.{w64, int_wrap}
 use Rattle.std.specs.Ordering.{int_eq}

@@ -1,17 +1,17 @@
 -- What the commands of sh do (POSIX XCU 2.9), as a walk over the tree. `call` is what a call of a function does, one level further down.
-use Rattle.std.specs.Prelude.{ℕ, suc, zero, Bool, true, false, not, List, [], ◌∷◌, ◌++◌, Option, Some, None}
+use Rattle.std.specs.Prelude.{ℕ, suc, zero, Bool, true, false, not, List, [], ◌∷◌}
 use Rattle.span_text.specs.KnownNames.{is_known_command}
 use Rattle.shell_world.specs.Texts.{Text}
-use Rattle.shell_world.specs.Runs.{St, Ends, Do, after, choose, with_own}
-use Rattle.shell_runs.specs.Flow.{Flow, Normal, Breaks, Continues, Returns, Exits}
+use Rattle.shell_world.specs.Runs.{Ends, Do, after, choose}
+use Rattle.shell_runs.specs.Flow.{Flow, Normal}
 use Rattle.shell_runs.specs.Sequences.{if_normal, now, unspecified, out_of_bounds}
 use Rattle.shell_runs.specs.Loops.{loop_do, items_run}
-use Rattle.shell_runs.specs.Redirecting.{Made, Done, Failed, if_made}
+use Rattle.shell_runs.specs.Redirecting.{Made, Done, if_made}
 use Rattle.shell_runs.specs.Shells.{in_shell, substitute, stage_run, piped}
 use Rattle.sh_grammar.specs.Shape as shape
 use Rattle.sh_grammar.specs.Shape.{Part, plain, exact, double, tilde, param, subst, arith, Parts, no_part, part, ParamOp, as_is, length_of, fill, trim, Words, no_word, word, Value, no_value, value, Assigns, no_assign, assign, Redirects, no_redirect, redirect, Command, command, Kind, simple, group, subshell, branching, loop, walk, cases, function, Branches, no_branch, branch, Otherwise, no_else, otherwise, ForWords, parameters, listed, Items, no_item, item, Stages, no_stage, stage, Pipeline, pipeline, Links, no_link, and_link, or_link, Chain, chain, Script, no_chain, next_chain}
-use Rattle.sh_meaning.specs.Own.{Own, status_of, with_status, fds_of, with_fds, succeeded, is_zero, assigned, defined, arguments}
-use Rattle.sh_meaning.specs.Modes.{Mode, Bare, Double, Single, Operand, in_quotes, in_fill, in_assigning, in_pattern, in_value, in_operand}
+use Rattle.sh_meaning.specs.Own.{Own, status_of, with_status, fds_of, with_fds, succeeded, assigned, defined, arguments}
+use Rattle.sh_meaning.specs.Modes.{Mode, in_quotes, in_fill, in_assigning, in_pattern, in_value, in_operand}
 use Rattle.sh_meaning.specs.Expanded.{Expanded, nothing, with_exact, text_of}
 use Rattle.sh_meaning.specs.Expanding.{is, Where, First, Later, plain_run, quoted_over, tilde_run, subst_over, param_run, length_run, fill_run, trim_run, Operands, no_operands, operand_run, sum_over, checked, Fielded, no_fields, Arguments, pathnames_over, pattern_run, if_unmatched}
 use Rattle.sh_meaning.specs.Arithmetic.{behind_signs}
@@ -172,7 +172,7 @@ abbrev mutual
   pub kind_run : Setting → Calls → Place → (Bool → Do (Made Bool) Own) → Kind → Do Flow Own
   kind_run z call place redirects (simple as' ws) n s =
       after (after (words_run z call Name ws no_fields n s) pathnames_over)
-        (simple_over z call place (form_of z as' ws) redirects (assigns_run z call as') (prefix_run z call as' []) (has_assigns as'))
+      (simple_over z call place (form_of z as' ws) redirects (assigns_run z call as') (prefix_run z call as' []) (has_assigns as'))
   kind_run z call place redirects (group script) n s = around (redirects false) (behind (script_run z call place script)) (failed_run z.world) n s
   kind_run z call place redirects (subshell script) n s =
       around (redirects false) (behind (in_shell status_of with_status (script_run z call in_shell_place script))) (failed_run z.world) n s
@@ -210,7 +210,7 @@ abbrev mutual
   stages_run z call place (stage c no_stage) n s = command_run z call place c n s
   stages_run z call place (stage c (stage d ds)) n s =
       piped z.world.latitude.last_current with_fds fds_of status_of with_status
-        (stage_run fds_of with_fds (command_run z call in_shell_place c) (piped_run z call (stage d ds))) n s
+      (stage_run fds_of with_fds (command_run z call in_shell_place c) (piped_run z call (stage d ds))) n s
 
   pub piped_run : Setting → Calls → Stages → Do Flow Own
   piped_run z call no_stage n s = Ends Normal s n

@@ -1,5 +1,5 @@
 -- Some runs worked out.
-use Rattle.std.specs.Prelude.{◌≡◌, ℕ, Bool, true, false, List, [], ◌∷◌, ◌++◌, map, Option, Some, None, refl, codes}
+use Rattle.std.specs.Prelude.{◌≡◌, ℕ, Bool, true, false, List, [], ◌∷◌, Option, Some, None, refl, codes}
 use Rattle.std.specs.Fmt.{digits as digits_of}
 use Rattle.glob_pattern.specs.Brackets.{body_len}
 use Rattle.span_text.specs.Constant.{number_of}
@@ -9,13 +9,12 @@ use Rattle.field_split.specs.Fields.{is_of, behind, fields}
 use Rattle.field_split.specs.Reading.{bytes_of, line_items, without_end, texts_of}
 use Rattle.glob_pattern.specs.Pieces.{matches}
 use Rattle.glob_pattern.specs.Reading.{piece_at, piece_len, piece_doubt, pieces_of, doubt_of}
-use Rattle.glob_pattern.specs.Paths.{components_of, found_paths}
 use Rattle.shell_world.specs.Texts.{Text}
 use Rattle.shell_world.specs.declared.world.World.{World}
 use Rattle.shell_world.specs.Paths.{names_path, path_text}
 use Rattle.shell_world.specs.Ends.{Outcome, Ended, Going, Unknown}
 use Rattle.shell_runs.specs.Shells.{substitution_text}
-use Rattle.sh_grammar.specs.Shape.{Part, plain, exact, double, tilde, param, subst, arith, Parts, no_part, part, ParamOp, as_is, length_of, fill, trim, default, Param, named, digits, status, at, star, Words, no_word, word, value, no_value, Assigns, no_assign, assign, no_redirect, redirect, Redirects, read, write, Command, command, Kind, simple, group, subshell, loop, walk, cases, function, listed, no_item, item, Stages, no_stage, stage, pipeline, no_link, and_link, chain, Script, no_chain, next_chain}
+use Rattle.sh_grammar.specs.Shape.{plain, double, tilde, param, subst, Parts, no_part, part, as_is, fill, trim, default, Param, named, digits, status, at, Words, no_word, word, value, no_assign, assign, no_redirect, redirect, read, write, Command, command, Kind, simple, group, subshell, loop, walk, function, listed, no_stage, stage, pipeline, no_link, chain, Script, no_chain, next_chain}
 use Rattle.sh_meaning.specs.Lists.{has_crowded_lists, is_entangled}
 use Rattle.sh_meaning.specs.Pathnames.{field_texts}
 use Rattle.sh_meaning.specs.Simple.{found}
@@ -72,7 +71,10 @@ pipes a b more = next_chain (chain (pipeline false (stage a (stage b no_stage)))
 abbrev in_world : Bool → World
 in_world last_current = record {
   args = codes "s" ∷ codes "a b" ∷ codes "c" ∷ [];
-  env = []; files = []; rows = []; stdin = codes "l\n";
+  env = [];
+  files = [];
+  rows = [];
+  stdin = codes "l\n";
   bounds = record { turns = 5; depth = 2 };
   latitude = record { last_current = last_current; redirect = 3 };
 }
@@ -145,7 +147,7 @@ jumping =
     shows (command (simple no_assign (words_of (w (codes "echo") ∷ w (codes "a") ∷ []))) (redirect None write (w (codes "/")) no_redirect) ∷ echo (bare status) ∷ []) ∷
     -- echo a >f; read x <f; echo $x
     shows (command (simple no_assign (words_of (w (codes "echo") ∷ w (codes "a") ∷ []))) (redirect None write (w (codes "f")) no_redirect)
-      ∷ command (simple no_assign (words_of (w (codes "read") ∷ w (codes "x") ∷ []))) (redirect None read (w (codes "f")) no_redirect) ∷ echo (bare x) ∷ []) ∷ []
+    ∷ command (simple no_assign (words_of (w (codes "read") ∷ w (codes "x") ∷ []))) (redirect None read (w (codes "f")) no_redirect) ∷ echo (bare x) ∷ []) ∷ []
 
 commands_are : jumping ≡ Some (codes "a\n", 0) ∷ None ∷ Some (codes "a\n", 4) ∷ Some (codes "3\n", 0) ∷ Some (codes "a\n", 0) ∷ []
 unfolding digits_of names_path path_text number_of is_of behind fields bytes_of line_items without_end texts_of has_crowded_lists field_texts found is_export_operand is_export_name is_fit_operand is_literal special_builtin plain_builtin builtin_of builtin_ending builtins refused_builtins standard_words bash_words other_commands begins_name continues_name

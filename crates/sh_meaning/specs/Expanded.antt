@@ -1,8 +1,8 @@
 -- A word while it is expanded, part by part (POSIX XCU 2.6).
-use Rattle.std.specs.Prelude.{ℕ, Bool, true, false, not, ◌&&◌, ◌||◌, ◌==◌, if◌then◌else◌, List, [], ◌∷◌, ◌++◌, map}
-use Rattle.std.specs.List.{list_any, flat_map, join_by}
+use Rattle.std.specs.Prelude.{Bool, true, false, ◌&&◌, if◌then◌else◌, List, [], ◌∷◌, ◌++◌, map}
+use Rattle.std.specs.List.{flat_map, join_by}
 use Rattle.span_text.specs.declared.flagged.Mark.{Mark}
-use Rattle.span_text.specs.declared.flagged.Mark.TheVariants.{Written, Quoted, Value}
+use Rattle.span_text.specs.declared.flagged.Mark.TheVariants.{Quoted, Value}
 use Rattle.span_text.specs.declared.flagged.Item.{Item}
 use Rattle.span_text.specs.declared.flagged.Item.TheVariants.{Byte, Quote}
 use Rattle.field_split.specs.Fields.{fields, separators}

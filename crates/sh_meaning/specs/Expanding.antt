@@ -1,23 +1,20 @@
 -- The steps of expanding a word (POSIX XCU 2.6). Each run behind which something goes on has a definition for what goes on.
 use Rattle.std.specs.Prelude.{ℕ, Bool, true, false, not, ◌||◌, ◌==◌, List, [], ◌∷◌, ◌++◌, length, decimal, Option, Some, None, is_some, ℤ}
-use Rattle.span_text.specs.declared.flagged.Mark.{Mark}
 use Rattle.span_text.specs.declared.flagged.Item.{Item}
 use Rattle.span_text.specs.declared.expr.Expr.{Expr}
 use Rattle.glob_pattern.specs.declared.sign.Use.TheVariants as use_of
 use Rattle.glob_pattern.specs.Pieces.{matches}
 use Rattle.glob_pattern.specs.Reading.{pieces_of, doubt_of}
-use Rattle.shell_world.specs.Texts.{Text, Map}
-use Rattle.shell_world.specs.Runs.{St, Ends, Do, after, choose, with_own}
-use Rattle.shell_runs.specs.Flow.{Flow}
+use Rattle.shell_world.specs.Texts.{Text}
+use Rattle.shell_world.specs.Runs.{Ends, Do, after, choose, with_own}
 use Rattle.shell_runs.specs.Sequences.{unspecified}
-use Rattle.sh_grammar.specs.Shape.{Param, named, digits, count, status, at, star, FillTest, default, assigning, alternate, Parts, Value}
-use Rattle.sh_meaning.specs.Variables.{Variables}
-use Rattle.sh_meaning.specs.Own.{Own, assigned, arguments, succeeded}
+use Rattle.sh_grammar.specs.Shape.{Param, named, digits, count, status, at, star, FillTest, default, assigning, alternate, Parts}
+use Rattle.sh_meaning.specs.Own.{Own, assigned, arguments}
 use Rattle.sh_meaning.specs.Modes.{Mode, Bare, Double, Listing, Members, Joined, Nowhere, listing_at, listing_star}
-use Rattle.sh_meaning.specs.Expanded.{Expanded, nothing, with_plain, with_exact, with_value, with_home, with_ran, with_quote, with_members, joined_members, is_unclear, fields_of, text_of}
+use Rattle.sh_meaning.specs.Expanded.{Expanded, with_plain, with_value, with_home, with_ran, with_quote, with_members, joined_members, is_unclear, fields_of, text_of}
 use Rattle.sh_meaning.specs.Parameters.{parameter, parameter_text, home, ifs, is_lacking, has_length, can_trim, trimmed}
 use Rattle.sh_meaning.specs.Arithmetic.{Sum, evaluated, number_text, operand_number}
-use Rattle.sh_meaning.specs.Lists.{is_list, has_crowded_lists, is_entangled}
+use Rattle.sh_meaning.specs.Lists.{is_list, has_crowded_lists}
 use Rattle.sh_meaning.specs.Pathnames.{texts_of}
 use Rattle.sh_meaning.specs.builtins.Export.{has_tilde}
 

@@ -1,11 +1,10 @@
 -- What of a word is judged as it is written: lists, and uses of names (POSIX XCU 2.5.2, 2.9.1).
-use Rattle.std.specs.Prelude.{ℕ, Bool, true, false, not, ◌&&◌, ◌||◌, ◌==◌, nat_lt, ◌+◌, List, [], ◌∷◌, codes}
-use Rattle.std.specs.List.{list_any}
+use Rattle.std.specs.Prelude.{ℕ, Bool, true, false, ◌&&◌, ◌||◌, nat_lt, ◌+◌, List, [], ◌∷◌, codes}
 use Rattle.span_text.specs.declared.expr.Expr.{Expr}
 use Rattle.span_text.specs.declared.expr.Expr.TheOpen.{Expr-F}
 use Rattle.span_text.specs.declared.expr.Expr.TheOpen as open_expr
 use Rattle.span_text.specs.declared.expr.Expr.TheFolds.{fold-Expr}
-use Rattle.span_text.specs.KnownNames.{same_text, is_among}
+use Rattle.span_text.specs.KnownNames.{is_among}
 use Rattle.shell_world.specs.Texts.{Text}
 use Rattle.sh_grammar.specs.Shape.{Param, named, digits, count, status, at, star, Part, plain, exact, double, tilde, param, subst, arith, Parts, no_part, part, ParamOp, as_is, length_of, fill, trim, Words, no_word, word, Value, no_value, value}
 

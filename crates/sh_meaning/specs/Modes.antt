@@ -1,5 +1,4 @@
 -- What a word is expanded for, and how a part of it stands there (POSIX XCU 2.6).
-use Rattle.std.specs.Prelude.{Bool, true, false}
 use Rattle.span_text.specs.declared.flagged.Mark.{Mark}
 use Rattle.span_text.specs.declared.flagged.Mark.TheVariants.{Written, Quoted, Value}
 

@@ -1,14 +1,11 @@
 -- Parameters and their values (POSIX XCU 2.5).
-use Rattle.std.specs.Prelude.{ℕ, ◌-◌, Bool, true, false, not, ◌&&◌, ◌||◌, ◌==◌, if◌then◌else◌, List, [], ◌∷◌, length, take, drop, decimal, Option, Some, None, is_none, codes}
+use Rattle.std.specs.Prelude.{ℕ, ◌-◌, Bool, true, false, List, [], ◌∷◌, length, take, drop, decimal, Option, Some, None, is_none, codes}
 use Rattle.std.specs.Str.Parse.{digits_value}
-use Rattle.span_text.specs.declared.flagged.Item.{Item}
-use Rattle.glob_pattern.specs.Pieces.{matches}
 use Rattle.glob_pattern.specs.Lengths.{least, greatest, front_matches, end_matches}
 use Rattle.glob_pattern.specs.declared.piece.Piece.{Piece}
 use Rattle.shell_world.specs.Texts.{Text, lookup, nth, text_or_none}
 use Rattle.sh_grammar.specs.Shape.{Param, named, digits, count, status, at, star}
 use Rattle.sh_meaning.specs.declared.variable.Variable.{Variable}
-use Rattle.sh_meaning.specs.Variables.{Variables}
 use Rattle.sh_meaning.specs.Own.{Own, arguments}
 
 abbrev pub value_in : Option Variable → Option Text

@@ -1,8 +1,7 @@
 -- Fields become names of files, and lose their quotes (POSIX XCU 2.6.6, 2.6.7).
-use Rattle.std.specs.Prelude.{ℕ, Bool, true, false, ◌||◌, ◌&&◌, ◌==◌, if◌then◌else◌, List, [], ◌∷◌, ◌++◌, Option, Some, None, is_some}
+use Rattle.std.specs.Prelude.{ℕ, Bool, false, ◌||◌, ◌==◌, if◌then◌else◌, List, [], ◌∷◌, ◌++◌, Option, Some, None, is_some}
 use Rattle.std.specs.List.{list_any}
 use Rattle.std.specs.Ordering.{is_gt}
-use Rattle.span_text.specs.declared.flagged.Mark.{Mark}
 use Rattle.span_text.specs.declared.flagged.Mark.TheVariants.{Written, Quoted, Value}
 use Rattle.span_text.specs.declared.flagged.Item.{Item}
 use Rattle.span_text.specs.declared.flagged.Item.TheVariants.{Byte, Quote}

@@ -1,16 +1,16 @@
 -- Redirections of sh (POSIX XCU 2.7).
-use Rattle.std.specs.Prelude.{ℕ, ◌-◌, ◌==◌, Bool, true, false, List, [], ◌∷◌, Option, Some, None}
+use Rattle.std.specs.Prelude.{ℕ, ◌-◌, ◌==◌, Bool, true, false, [], ◌∷◌, Option, Some, None}
 use Rattle.shell_world.specs.declared.world.World.{World}
 use Rattle.shell_world.specs.Texts.{Text}
 use Rattle.shell_world.specs.Opening.{Opened, read_opened, write_opened, text_opened}
 use Rattle.shell_world.specs.Outside.{Outside}
-use Rattle.shell_world.specs.Runs.{St, Ends, Do, after, choose}
+use Rattle.shell_world.specs.Runs.{Do, after, choose}
 use Rattle.shell_runs.specs.Flow.{Flow}
-use Rattle.shell_runs.specs.Sequences.{now, unspecified}
-use Rattle.shell_runs.specs.Redirecting.{Made, Done, Failed, opened_run, copied_run, closed_run, redirected, bracketed}
-use Rattle.sh_grammar.specs.Shape.{RedirectOp, read, write, append, here_literal, here_expanded, copy_in, copy_out, Part, plain, Parts, no_part, part}
+use Rattle.shell_runs.specs.Sequences.{now}
+use Rattle.shell_runs.specs.Redirecting.{Made, opened_run, copied_run, closed_run, redirected, bracketed}
+use Rattle.sh_grammar.specs.Shape.{RedirectOp, read, write, append, here_literal, here_expanded, copy_in, copy_out, plain, Parts, no_part, part}
 use Rattle.sh_meaning.specs.Own.{Own, fds_of, with_fds, with_status}
-use Rattle.sh_meaning.specs.Modes.{Mode, Bare, Double, Single, Body, in_value}
+use Rattle.sh_meaning.specs.Modes.{Mode, Double, Body, in_value}
 use Rattle.sh_meaning.specs.Expanded.{Expanded, text_of}
 
 -- the descriptor where none is written

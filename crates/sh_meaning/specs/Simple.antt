@@ -1,15 +1,15 @@
 -- Simple commands (POSIX XCU 2.9.1): words are expanded first, then redirections are made, then the values of assignments are expanded.
-use Rattle.std.specs.Prelude.{ℕ, Bool, true, false, not, ◌&&◌, ◌||◌, if◌then◌else◌, List, [], ◌∷◌, ◌++◌, map, Option, Some, None, is_some, codes}
+use Rattle.std.specs.Prelude.{Bool, true, false, ◌&&◌, if◌then◌else◌, List, [], ◌∷◌, ◌++◌, map, Option, Some, None, codes}
 use Rattle.span_text.specs.KnownNames.{same_text, is_known_command}
 use Rattle.shell_world.specs.declared.world.World.{World}
-use Rattle.shell_world.specs.Texts.{Text, Map, lookup, insert}
+use Rattle.shell_world.specs.Texts.{Text, lookup, insert}
 use Rattle.shell_world.specs.Calls.{Called, called}
-use Rattle.shell_world.specs.Runs.{St, Ends, Do, after, choose, with_own}
+use Rattle.shell_world.specs.Runs.{Ends, Do, after, choose, with_own}
 use Rattle.shell_runs.specs.Flow.{Flow, Normal}
 use Rattle.shell_runs.specs.Sequences.{now, unspecified}
 use Rattle.shell_runs.specs.Calls.{call_do}
 use Rattle.shell_runs.specs.Redirecting.{Made}
-use Rattle.sh_grammar.specs.Shape.{Part, plain, exact, double, tilde, param, subst, arith, Parts, no_part, part, Words, no_word, word, Value, Assigns, no_assign, assign, Command}
+use Rattle.sh_grammar.specs.Shape.{Part, plain, exact, double, tilde, param, subst, arith, Parts, no_part, part, Words, Assigns, no_assign, assign, Command}
 use Rattle.sh_meaning.specs.declared.variable.Variable.{Variable}
 use Rattle.sh_meaning.specs.Variables.{Variables, environment, new_variable}
 use Rattle.sh_meaning.specs.Own.{Own, with_status, assigned, with_arguments, parameters_back}

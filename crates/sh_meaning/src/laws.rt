@@ -26,5 +26,5 @@ pub fn loops_unroll()
         let test_run = script_run z (level z levels) place test in
         let body_run = script_run z (level z levels) place body in
         loop_from (goes until) status_of with_status test_run body_run last n s
-      ≡ loop_round (goes until) status_of with_status test_run body_run (loop_from (goes until) status_of with_status test_run body_run) last n s }
+        ≡ loop_round (goes until) status_of with_status test_run body_run (loop_from (goes until) status_of with_status test_run body_run) last n s }
 {}

@@ -1,19 +1,19 @@
 -- The law of bounds for each combinator.
-use Rattle.std.proofs.Common.{◌≡◌, ℕ, zero, suc, ◌+◌, ◌≤◌, List, [], ◌∷◌, Bool, true, false, Option, Some, None, refl, sym, ap, subst, arith, length}
-use Rattle.shell_world.specs.Outside.{Trace, Fds, index_at}
-use Rattle.shell_world.specs.Texts.{Text, nth}
+use Rattle.std.proofs.Common.{ℕ, zero, suc, ◌≤◌, List, [], ◌∷◌, Bool, true, false, Option, Some, None, refl, arith, length}
+use Rattle.shell_world.specs.Outside.{Fds, index_at}
+use Rattle.shell_world.specs.Texts.{nth}
 use Rattle.shell_world.specs.Opening.{Opened, Refused, Opens}
-use Rattle.shell_world.specs.Runs.{St, Res, Ends, GoesOn, Unspecified, Do, after, choose, with_own}
+use Rattle.shell_world.specs.Runs.{St, Res, Ends, GoesOn, Unspecified, Do, choose, with_own}
 use Rattle.shell_world.specs.Ends.{IsPrefix}
 use Rattle.shell_world.proofs.Monotone.{prefix_refl}
 use Rattle.shell_runs.specs.Flow.{Flow, Normal, Breaks, Continues, Returns, Exits}
-use Rattle.shell_runs.specs.Sequences.{if_normal, now, gives, take_turn, out_of_bounds, unspecified}
-use Rattle.shell_runs.specs.Loops.{rounds, body_over, body_run, test_over, loop_round, loop_from, loop_do, item_over, item_run, items_run}
+use Rattle.shell_runs.specs.Sequences.{if_normal, now, gives, take_turn}
+use Rattle.shell_runs.specs.Loops.{rounds, body_over, body_run, test_over, loop_round, loop_do, item_over, item_run, items_run}
 use Rattle.shell_runs.specs.Calls.{returned, call_over, called_run, call_do}
 use Rattle.shell_runs.specs.Redirecting.{Made, Done, Failed, opened_run, shared_run, copied_run, closed_run, if_made, made_or, redirected, fds_back, bracketed}
 use Rattle.shell_runs.specs.Shells.{shell_over, in_shell, buffered, substituted, substitute, handed, stage_over, stage_run, pipeline_over, piped}
 use Rattle.shell_runs.specs.Bounds.{record_of, turns_left, Later, Under}
-use Rattle.shell_runs.proofs.Monotone.{under_from, under_after, under_start, under_ends, under_keeps, under_is, under_own, under_unspecified, under_stop, under_choose, under_by}
+use Rattle.shell_runs.proofs.Monotone.{under_from, under_after, under_start, under_keeps, under_is, under_own, under_stop, under_choose, under_by}
 
 -- ---- sequences and turns
 
@@ -80,7 +80,7 @@ module _ {S : Type 0} (goes : S → Bool) (status : S → ℕ) (with_status : �
   under_test_over : (k k' : ℕ → Do Flow S) → ((a : ℕ) → Under (k a) (k' a)) → (last : ℕ) (flow : Flow) → Under (test_over goes status with_status body k last flow) (test_over goes status with_status body' k' last flow)
   under_test_over k k' u last Normal =
       under_by (λ s. choose (goes s.own) (take_turn (body_run status body k)) (now (with_status last))) (λ s. choose (goes s.own) (take_turn (body_run status body' k')) (now (with_status last)))
-        (λ s. under_choose (goes s.own) _ _ _ _ (under_turn _ _ (under_body_run k k' u)) (under_now (with_status last)))
+      (λ s. under_choose (goes s.own) _ _ _ _ (under_turn _ _ (under_body_run k k' u)) (under_now (with_status last)))
   under_test_over k k' u last (Breaks zero) = under_flow Normal
   under_test_over k k' u last (Breaks (suc more)) = under_flow (Breaks more)
   under_test_over k k' u last (Continues zero) = under_turn _ _ (u last)
@@ -118,15 +118,15 @@ pub under_items : {X S : Type 0} (assign : X → S → S) (body body' : Do Flow 
 under_items assign body body' u [] = under_flow Normal
 under_items assign body body' u (x ∷ xs) =
     under_turn (item_run assign body x (items_run assign body xs)) (item_run assign body' x (items_run assign body' xs))
-      (under_after (λ n s. body n (with_own s (assign x s.own))) (λ n s. body' n (with_own s (assign x s.own))) (item_over (items_run assign body xs)) (item_over (items_run assign body' xs))
-        (under_with (assign x) body body' u) (under_item_over (items_run assign body xs) (items_run assign body' xs) (under_items assign body body' u xs)))
+    (under_after (λ n s. body n (with_own s (assign x s.own))) (λ n s. body' n (with_own s (assign x s.own))) (item_over (items_run assign body xs)) (item_over (items_run assign body' xs))
+    (under_with (assign x) body body' u) (under_item_over (items_run assign body xs) (items_run assign body' xs) (under_items assign body body' u xs)))
 
 -- ---- calls
 
 pub under_call : {S : Type 0} (enter : S → S) (back : S → S → S) (body body' : Do Flow S) → Under body body' → Under (call_do enter back body) (call_do enter back body')
 under_call enter back body body' u = under_turn (called_run enter back body) (called_run enter back body')
     (under_from (λ n s. body n (with_own s (enter s.own))) (λ n s. body' n (with_own s (enter s.own))) (λ s. call_over back s.own) (λ s. call_over back s.own)
-      (under_with enter body body' u) (λ s flow. under_own (λ z. returned flow) (λ z. back s.own z.own)))
+    (under_with enter body body' u) (λ s flow. under_own (λ z. returned flow) (λ z. back s.own z.own)))
 
 -- ---- redirections
 
@@ -175,12 +175,12 @@ under_buffered fds with_fds c c' u = under_start (buffered fds with_fds) c c' (�
 pub under_substitute : {S : Type 0} (fds : S → Fds) (with_fds : Fds → S → S) (status : S → ℕ) (with_status : ℕ → S → S) (c c' : Do Flow S) → Under c c' → Under (substitute fds with_fds status with_status c) (substitute fds with_fds status with_status c')
 under_substitute fds with_fds status with_status c c' u =
     under_from (λ n s. c n (buffered fds with_fds s)) (λ n s. c' n (buffered fds with_fds s)) (λ s. substituted status with_status (length s.outside.descs) s.own) (λ s. substituted status with_status (length s.outside.descs) s.own)
-      (under_buffered fds with_fds c c' u) (λ s flow. under_keeps _ _ (λ z. refl))
+    (under_buffered fds with_fds c c' u) (λ s flow. under_keeps _ _ (λ z. refl))
 
 pub under_stage : {S : Type 0} (fds : S → Fds) (with_fds : Fds → S → S) (c c' rest rest' : Do Flow S) → Under c c' → Under rest rest' → Under (stage_run fds with_fds c rest) (stage_run fds with_fds c' rest')
 under_stage fds with_fds c c' rest rest' u v =
     under_from (λ n s. c n (buffered fds with_fds s)) (λ n s. c' n (buffered fds with_fds s)) (λ s. stage_over fds with_fds (length s.outside.descs) s.own rest) (λ s. stage_over fds with_fds (length s.outside.descs) s.own rest')
-      (under_buffered fds with_fds c c' u) (λ s flow. under_start (handed fds with_fds (length s.outside.descs) s.own) rest rest' (λ z. prefix_refl z.trace) v)
+    (under_buffered fds with_fds c c' u) (λ s flow. under_start (handed fds with_fds (length s.outside.descs) s.own) rest rest' (λ z. prefix_refl z.trace) v)
 
 under_pipeline_over : {S : Type 0} (current : Bool) (with_fds : Fds → S → S) (fds : S → Fds) (status : S → ℕ) (with_status : ℕ → S → S) (before : S) (flow : Flow) → Under (pipeline_over current with_fds fds status with_status before flow) (pipeline_over current with_fds fds status with_status before flow)
 under_pipeline_over true with_fds fds status with_status before flow = under_own (λ s. flow) (λ s. with_fds (fds before) s.own)

@@ -1,5 +1,5 @@
 -- More turns change nothing of a run that is over, only lengthen the record of one that goes on, and none is given back.
-use Rattle.std.proofs.Common.{◌≡◌, ℕ, zero, suc, ◌+◌, ◌≤◌, List, [], ◌++◌, Bool, true, false, refl, sym, ap, ◌∙◌, subst, arith}
+use Rattle.std.proofs.Common.{◌≡◌, ℕ, ◌+◌, ◌≤◌, Bool, true, false, refl, sym, ap, subst, arith}
 use Rattle.shell_world.specs.Outside.{Trace}
 use Rattle.shell_world.specs.Runs.{St, Res, Ends, GoesOn, Unspecified, Do, after, choose, with_own}
 use Rattle.shell_world.specs.Ends.{IsPrefix}

@@ -1,7 +1,7 @@
 -- The law of bounds for whole runs.
 use Rattle.std.proofs.Common.{◌≡◌, ℕ, refl, sym, ap, subst}
 use Rattle.shell_world.specs.Runs.{Res, Ends, GoesOn, Unspecified}
-use Rattle.shell_world.specs.Ends.{Outcome, IsPrefix, trace_of}
+use Rattle.shell_world.specs.Ends.{IsPrefix, trace_of}
 use Rattle.shell_world.proofs.Monotone.{prefix_refl}
 use Rattle.shell_runs.specs.Flow.{Flow}
 use Rattle.shell_runs.specs.Ends.{outcome}

@@ -1,5 +1,5 @@
 -- A loop is a round and the loop again: since each round takes a turn, its turns always suffice for its rounds.
-use Rattle.std.proofs.Common.{◌≡◌, ℕ, zero, suc, ◌<◌, ◌≤◌, ◌+◌, Bool, true, false, refl, arith}
+use Rattle.std.proofs.Common.{◌≡◌, ℕ, zero, suc, ◌<◌, ◌≤◌, Bool, true, false, refl, arith}
 use Rattle.shell_world.specs.Runs.{St, Res, Ends, GoesOn, Unspecified, Do, after, choose}
 use Rattle.shell_runs.specs.Flow.{Flow, Normal, Breaks, Continues, Returns, Exits}
 use Rattle.shell_runs.specs.Sequences.{now, take_turn}

@@ -1,6 +1,5 @@
 -- Calls of functions (POSIX XCU 2.9.5): a turn is taken first, and then a level. Where the level is missing, the turn counts as used.
-use Rattle.std.specs.Prelude.{ℕ}
-use Rattle.shell_world.specs.Runs.{St, Ends, Do, after, with_own}
+use Rattle.shell_world.specs.Runs.{Ends, Do, after, with_own}
 use Rattle.shell_runs.specs.Flow.{Flow, Normal, Breaks, Continues, Returns, Exits}
 use Rattle.shell_runs.specs.Sequences.{take_turn}
 

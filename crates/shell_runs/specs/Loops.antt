@@ -1,6 +1,6 @@
 -- Loops (POSIX XCU 2.9.4.1, 2.9.4.3, 2.9.4.4). Each start of a body takes a turn. So does a round that a `continue` in a test starts, since it would else start another without any turn.
 use Rattle.std.specs.Prelude.{ℕ, zero, suc, Bool, List, [], ◌∷◌}
-use Rattle.shell_world.specs.Runs.{St, Res, Ends, Do, after, choose, with_own}
+use Rattle.shell_world.specs.Runs.{Ends, Do, after, choose, with_own}
 use Rattle.shell_runs.specs.Flow.{Flow, Normal, Breaks, Continues, Returns, Exits}
 use Rattle.shell_runs.specs.Sequences.{now, take_turn, out_of_bounds}
 

@@ -1,5 +1,5 @@
 -- Redirections around a run (POSIX XCU 2.7). What is opened gets the next number of a description, and the descriptors are as before behind the run.
-use Rattle.std.specs.Prelude.{ℕ, List, Option, Some, None}
+use Rattle.std.specs.Prelude.{ℕ, Option, Some, None}
 use Rattle.shell_world.specs.Texts.{nth, with_nth}
 use Rattle.shell_world.specs.Outside.{Fds, Outside, index_at}
 use Rattle.shell_world.specs.Opening.{Opened, Refused, Opens}

@@ -1,6 +1,6 @@
 -- Commands one behind the other, and turns (POSIX XCU 2.9.3). What goes on behind a run is always a named definition, so that a machine can keep it on a stack.
-use Rattle.std.specs.Prelude.{ℕ, zero, suc}
-use Rattle.shell_world.specs.Runs.{St, Ends, GoesOn, Unspecified, Do, with_own}
+use Rattle.std.specs.Prelude.{zero, suc}
+use Rattle.shell_world.specs.Runs.{Ends, GoesOn, Unspecified, Do, with_own}
 use Rattle.shell_runs.specs.Flow.{Flow, Normal, Breaks, Continues, Returns, Exits}
 
 -- the next command

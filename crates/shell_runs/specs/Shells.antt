@@ -1,9 +1,9 @@
 -- Shell environments of their own (POSIX XCU 2.12): subshells, command substitutions (2.6.3), and the stages of pipelines (2.9.2). Only the outside, the record and a status stay of them.
-use Rattle.std.specs.Prelude.{ℕ, Bool, true, false, not, ◌==◌, ◌-◌, [], length, take, filter, Option, Some}
+use Rattle.std.specs.Prelude.{ℕ, Bool, true, false, ◌==◌, ◌-◌, [], length, take, Some}
 use Rattle.std.specs.List.{suffix_len}
 use Rattle.shell_world.specs.Texts.{Text}
 use Rattle.shell_world.specs.declared.description.Description.TheVariants.{Given, Buffer}
-use Rattle.shell_world.specs.Outside.{Fds, Outside, desc_at}
+use Rattle.shell_world.specs.Outside.{Fds, desc_at}
 use Rattle.shell_world.specs.Opening.{with_desc, buffer_text, taken_at}
 use Rattle.shell_world.specs.Lines.{without_nul}
 use Rattle.shell_world.specs.Runs.{St, Ends, Do, after, with_own}
