@@ -1,9 +1,8 @@
--- What an arithmetic expression gives (POSIX XCU 2.6.4). None is what shells don't agree on: a fault of an operator, a name without a value or whose value is no constant, and operators that sh doesn't have.
-use Rattle.std.specs.Prelude.{ℕ, Bool, true, false, ◌&&◌, ◌||◌, ◌==◌, if◌then◌else◌, not, List, [], ◌∷◌, ◌++◌, Option, Some, None, Result, Ok, Err, ℤ, pos, int_lt, unsigned_abs, decimal}
+-- What an arithmetic expression gives (POSIX XCU 2.6.4). None is what shells don't agree on: a fault of an operator, a name without a value or whose value is no constant; and what sh text doesn't spell: `++`, the comma, members.
+use Rattle.std.specs.Prelude.{ℕ, Bool, true, false, ◌&&◌, ◌||◌, ◌==◌, if◌then◌else◌, not, List, [], ◌∷◌, ◌++◌, Option, Some, None, Result, Ok, Err, ℤ, pos, int_lt, unsigned_abs, decimal, ◌-ℤ◌}
 use Rattle.std.specs.List.{list_any}
 use Rattle.std.specs.Int.{w64, int_wrap}
 use Rattle.std.specs.Ordering.{int_eq}
-use Rattle.std.specs.Prelude.{◌-ℤ◌}
 use Rattle.span_text.specs.declared.expr.UnOp.{UnOp}
 use Rattle.span_text.specs.declared.expr.UnOp.TheVariants as unary
 use Rattle.span_text.specs.declared.expr.BinOp.{BinOp}

@@ -1,7 +1,7 @@
 -- Some runs worked out.
 use Rattle.std.specs.Prelude.{◌≡◌, ℕ, Bool, true, false, List, [], ◌∷◌, Option, Some, None, refl, codes}
 use Rattle.std.specs.Fmt.{digits as digits_of}
-use Rattle.glob_pattern.specs.Brackets.{body_len}
+use Rattle.glob_pattern.specs.Brackets.{class_len, element_len, class_named, class_at, mark_len, body_len, body_of, is_range, member_len, member_at, members_of, is_doubtful, is_bad_range, range_doubt, member_doubt, members_doubt}
 use Rattle.span_text.specs.Constant.{number_of}
 use Rattle.span_text.specs.KnownNames.{builtins, refused_builtins, standard_words, bash_words, other_commands}
 use Rattle.span_text.specs.Names.{begins_name, continues_name}
@@ -9,12 +9,13 @@ use Rattle.field_split.specs.Fields.{is_of, behind, fields}
 use Rattle.field_split.specs.Reading.{bytes_of, line_items, without_end, texts_of}
 use Rattle.glob_pattern.specs.Pieces.{matches}
 use Rattle.glob_pattern.specs.Reading.{piece_at, piece_len, piece_doubt, pieces_of, doubt_of}
+use Rattle.glob_pattern.specs.Paths.{components_of, found_paths}
 use Rattle.shell_world.specs.Texts.{Text}
 use Rattle.shell_world.specs.declared.world.World.{World}
 use Rattle.shell_world.specs.Paths.{names_path, path_text}
 use Rattle.shell_world.specs.Ends.{Outcome, Ended, Going, Unknown}
 use Rattle.shell_runs.specs.Shells.{substitution_text}
-use Rattle.sh_grammar.specs.Shape.{plain, double, tilde, param, subst, Parts, no_part, part, as_is, fill, trim, default, Param, named, digits, status, at, Words, no_word, word, value, no_assign, assign, no_redirect, redirect, read, write, Command, command, Kind, simple, group, subshell, loop, walk, function, listed, no_stage, stage, pipeline, no_link, chain, Script, no_chain, next_chain}
+use Rattle.sh_grammar.specs.Shape.{plain, double, tilde, param, subst, Parts, no_part, part, as_is, fill, trim, default, Param, named, digits, status, at, Words, no_word, word, value, no_assign, assign, no_redirect, redirect, read, write, Command, command, Kind, simple, group, subshell, loop, cases, item, no_item, walk, function, listed, no_stage, stage, pipeline, no_link, chain, Script, no_chain, next_chain}
 use Rattle.sh_meaning.specs.Lists.{has_crowded_lists, is_entangled}
 use Rattle.sh_meaning.specs.Pathnames.{field_texts}
 use Rattle.sh_meaning.specs.Simple.{found}
@@ -130,6 +131,16 @@ shells_are : substitutions ≡ Some (codes "1\n", 0) ∷ Some (codes "1\n", 0) �
 unfolding digits_of substitution_text is_of behind fields bytes_of has_crowded_lists field_texts found is_export_operand is_export_name is_fit_operand is_literal special_builtin plain_builtin builtin_of builtin_ending builtins refused_builtins standard_words bash_words other_commands
 shells_are = refl
 
+-- echo a >f; case f in [f]) echo *;; esac
+abbrev matching : List Command
+matching =
+    command (simple no_assign (words_of (w (codes "echo") ∷ w (codes "a") ∷ []))) (redirect None write (w (codes "f")) no_redirect)
+    ∷ plainly (cases (w (codes "f")) (item (words_of (w (codes "[f]") ∷ [])) (script_of (echo (w (codes "*")) ∷ [])) no_item)) ∷ []
+
+patterns_are : shows matching ≡ Some (codes "f\n", 0)
+unfolding names_path path_text digits_of body_len body_of mark_len class_len element_len class_named class_at is_range member_len member_at members_of is_doubtful is_bad_range range_doubt member_doubt members_doubt components_of found_paths is_of behind fields bytes_of matches piece_at piece_len piece_doubt pieces_of doubt_of has_crowded_lists field_texts found is_export_operand is_export_name is_fit_operand is_literal special_builtin plain_builtin builtin_of builtin_ending builtins refused_builtins standard_words bash_words other_commands
+patterns_are = refl
+
 -- ---- commands (2.9)
 
 abbrev forever : List Command → Command
@@ -147,10 +158,14 @@ jumping =
     shows (command (simple no_assign (words_of (w (codes "echo") ∷ w (codes "a") ∷ []))) (redirect None write (w (codes "/")) no_redirect) ∷ echo (bare status) ∷ []) ∷
     -- echo a >f; read x <f; echo $x
     shows (command (simple no_assign (words_of (w (codes "echo") ∷ w (codes "a") ∷ []))) (redirect None write (w (codes "f")) no_redirect)
-    ∷ command (simple no_assign (words_of (w (codes "read") ∷ w (codes "x") ∷ []))) (redirect None read (w (codes "f")) no_redirect) ∷ echo (bare x) ∷ []) ∷ []
+    ∷ command (simple no_assign (words_of (w (codes "read") ∷ w (codes "x") ∷ []))) (redirect None read (w (codes "f")) no_redirect) ∷ echo (bare x) ∷ []) ∷
+    -- export x=*; echo "$x"
+    shows (calls (w (codes "export") ∷ w (codes "x=*") ∷ []) ∷ echo (quoted x) ∷ []) ∷
+    -- x=1 true; echo $x
+    shows (plainly (simple (assign (codes "x") (value (w (codes "1"))) no_assign) (words_of (w (codes "true") ∷ []))) ∷ echo (quoted x) ∷ []) ∷ []
 
-commands_are : jumping ≡ Some (codes "a\n", 0) ∷ None ∷ Some (codes "a\n", 4) ∷ Some (codes "3\n", 0) ∷ Some (codes "a\n", 0) ∷ []
-unfolding digits_of names_path path_text number_of is_of behind fields bytes_of line_items without_end texts_of has_crowded_lists field_texts found is_export_operand is_export_name is_fit_operand is_literal special_builtin plain_builtin builtin_of builtin_ending builtins refused_builtins standard_words bash_words other_commands begins_name continues_name
+commands_are : jumping ≡ Some (codes "a\n", 0) ∷ None ∷ Some (codes "a\n", 4) ∷ Some (codes "3\n", 0) ∷ Some (codes "a\n", 0) ∷ Some (codes "*\n", 0) ∷ Some (codes "\n", 0) ∷ []
+unfolding digits_of names_path path_text number_of is_of behind fields bytes_of line_items without_end texts_of has_crowded_lists field_texts found is_export_operand is_export_name is_fit_operand is_literal special_builtin plain_builtin builtin_of builtin_ending builtins refused_builtins standard_words bash_words other_commands begins_name continues_name is_entangled
 commands_are = refl
 
 -- echo a | read x; echo "$x"

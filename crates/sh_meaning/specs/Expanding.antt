@@ -11,7 +11,7 @@ use Rattle.shell_runs.specs.Sequences.{unspecified}
 use Rattle.sh_grammar.specs.Shape.{Param, named, digits, count, status, at, star, FillTest, default, assigning, alternate, Parts}
 use Rattle.sh_meaning.specs.Own.{Own, assigned, arguments}
 use Rattle.sh_meaning.specs.Modes.{Mode, Bare, Double, Listing, Members, Joined, Nowhere, listing_at, listing_star}
-use Rattle.sh_meaning.specs.Expanded.{Expanded, with_plain, with_value, with_home, with_ran, with_quote, with_members, joined_members, is_unclear, fields_of, text_of}
+use Rattle.sh_meaning.specs.Expanded.{Expanded, with_plain, with_value, with_home, with_ran, with_quote, with_members, joined_members, is_unclear, quoted_items, fields_of, text_of}
 use Rattle.sh_meaning.specs.Parameters.{parameter, parameter_text, home, ifs, is_lacking, has_length, can_trim, trimmed}
 use Rattle.sh_meaning.specs.Arithmetic.{Sum, evaluated, number_text, operand_number}
 use Rattle.sh_meaning.specs.Lists.{is_list, has_crowded_lists}
@@ -184,9 +184,9 @@ abbrev pub fields_over : Fielded → Expanded → Do Fielded Own
 fields_over done e n s =
     choose (is_unclear e) unspecified (is (record { fields = done.fields ++ fields_of (ifs s.own) e; ran = e.ran })) n s
 
--- behind one that is one field, as it is
+-- behind one that is one field as it is: neither split nor a pattern
 abbrev pub operand_field_over : Fielded → Expanded → Do Fielded Own
-operand_field_over done e n s = Ends (record { fields = done.fields ++ e.now ∷ []; ran = e.ran }) s n
+operand_field_over done e n s = Ends (record { fields = done.fields ++ quoted_items (text_of e) ∷ []; ran = e.ran }) s n
 
 -- the arguments that fields become, and whether a command substitution ran
 pub record Arguments : Type 0 where
