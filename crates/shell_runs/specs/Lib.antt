@@ -6,3 +6,4 @@ pub mod Redirecting
 pub mod Shells
 pub mod Ends
 pub mod Bounds
+pub mod Examples
