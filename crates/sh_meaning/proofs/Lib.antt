@@ -1,1 +1,6 @@
 pub mod Bounds
+pub mod Grown
+pub mod Larger
+pub mod Simples
+pub mod Steps
+pub mod WholeRuns

@@ -1,2 +1,16 @@
+pub mod Arithmetic
+pub mod Commands
+pub mod Examples
+pub mod Expanded
+pub mod Expanding
+pub mod Lists
 pub mod Meaning
+pub mod Modes
+pub mod Own
+pub mod Parameters
+pub mod Pathnames
+pub mod Redirecting
+pub mod Running
+pub mod Simple
 pub mod Variables
+pub mod builtins

@@ -1,0 +1,16 @@
+pub mod Core
+pub mod Ends
+pub mod Examples
+pub mod Export
+pub mod Forms
+pub mod Functions
+pub mod Jumps
+pub mod Literals
+pub mod Names
+pub mod Parameters
+pub mod Places
+pub mod Printing
+pub mod Reading
+pub mod Run
+pub mod Testing
+pub mod Variables

@@ -1,0 +1,4 @@
+pub mod Combined
+pub mod Monotone
+pub mod Outcomes
+pub mod Unrolled
