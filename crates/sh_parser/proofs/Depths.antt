@@ -56,13 +56,6 @@ take_all (x ∷ xs) = ap (λ (ys : List Item). x ∷ ys) (take_all xs)
 one_off : (n : ℕ) → suc n - 1 ≡ n
 one_off n = omega arith
 
-abbrev pub behind_first : List Item → List Item
-behind_first xs = take (length xs - 1) (drop 1 xs)
-
-pub items_are : (xs : List Item) (d x : Item) → 1 ≤ length xs → get_or xs 0 d ≡ x → xs ≡ x ∷ behind_first xs
-items_are [] d x l e = absurd (omega arith)
-items_are (y ∷ ys) d x l e = rw (one_off (length ys), take_all ys) (ap (λ (z : Item). z ∷ ys) e)
-
 -- ---- tasks whose repetitions take bytes
 
 both : (a b : Bool) → a ≡ true → b ≡ true → (a && b) ≡ true
@@ -83,9 +76,6 @@ pub star_ready : (i : Item) (t : _) (u : Unit) (rest : List Item) (ts : List Tod
 star_ready i t u rest ts q a =
     let e : all_ready (tasks.items (items.Star t u ∷ rest) ∷ ts) ≡ true = subst (λ (x : Item). all_ready (tasks.items (x ∷ rest) ∷ ts) ≡ true) q a in
     both (is_small (star (test t) (unit u))) (all_ready (then_items rest ts)) (small_star t u rest (items_ready (items.Star t u ∷ rest) ts e).0) (rest_ready (items.Star t u) rest ts e)
-
-pub rule_ready : (r : Rule) (is : List Item) (bytes : Text) (ts : List Todo) → items_gram is ≡ chosen (body r) bytes → all_ready ts ≡ true → all_ready (tasks.items is ∷ ts) ≡ true
-rule_ready r is bytes ts e f = ready_items is ts (subst (λ (g : Gram). is_small g ≡ true) (sym e) (chosen_small (body r) bytes (body_small r))) f
 
 -- the first of them, and those behind it
 pub first_ready : (t : Todo) (ts : List Todo) → all_ready (t ∷ ts) ≡ true → (is_ready t ≡ true) × (all_ready ts ≡ true)

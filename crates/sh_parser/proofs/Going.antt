@@ -123,11 +123,3 @@ body_small r = (sh_ends zero []).rule_small r
 
 pub nodes_join : (front values all : List Value) → all ≡ front ++ values → nodes all ≡ nodes front ++ nodes values
 nodes_join front values all e = ap nodes e ∙ map-append value_node front values
-
-both_true : (a b : Bool) → (a && b) ≡ true → (a ≡ true) × (b ≡ true)
-both_true true true e = (refl, refl)
-both_true true false e = absurd cc
-both_true false b e = absurd cc
-
-pub star_takes : (t : Test) (g : Gram) → is_small (star t g) ≡ true → takes ranks g ≡ true
-star_takes t g e = (both_true (shallow ranks g 38) (takes ranks g) (both_true (shallow ranks g 38 && takes ranks g) (small ranks g) e).0).1

@@ -46,10 +46,6 @@ less_at : (b : ℕ) (bs : Text) (t : Bool) → t ≡ true → length (cond t (cl
 less_at b bs true e = let k = fits bs true in omega arith
 less_at b bs false e = absurd cc
 
-pub clear_less : (b : ℕ) (bs : Text) → is_join b bs ≡ true → length (clear (b ∷ bs)) < length (b ∷ bs)
-unfolding clear
-clear_less b bs e = less_at b bs (is_join b bs) e
-
 -- ---- in bodies
 
 abbrev expanding : Text → Bool → bodies.Owed

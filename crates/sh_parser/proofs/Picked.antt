@@ -7,7 +7,7 @@ use Rattle.sh_grammar.specs.State.{Node, parts_in, words_in, assigns_in, redirec
 use Rattle.sh_syntax.specs.declared.tree.Joint.TheVariants.{And, Or}
 use Rattle.sh_syntax.specs.View.{view, view_param, view_test, view_part, view_word, view_redirect, view_assign, view_kind, view_command, view_pipeline, view_item, view_case_item, parts_of, words_of, assigns_of, redirects_of, stages_of, links_of, items_of, branches_of, otherwise_of, for_words_of, value_of, case_items_of}
 use Rattle.sh_parser.specs.declared.picking.Picked.{Picked}
-use Rattle.sh_parser.specs.declared.picking.Opening.TheVariants as openings
+use Rattle.sh_parser.specs.declared.values.Opening.TheVariants as openings
 use Rattle.sh_parser.specs.declared.values.Value.{Value}
 use Rattle.sh_parser.specs.declared.values.Value.TheVariants as values
 use Rattle.sh_parser.specs.Picking.{first, head, second, none, put, puts, pick, text_of, operands_of, filled_of, sum_of, word_of, redirect_of, aimed_of, kind_of, command_of, pipeline_of, script_of}
@@ -24,8 +24,7 @@ abbrev before : Value → Picked → Picked
 before (values.Name n) r = record r { name = Some n }
 before (values.Digit d) r = record r { digit = Some d }
 before (values.Part x) r = record r { parts = x ∷ r.parts }
-before (values.Filling q test colon) r = record r { opening = Some (openings.Filling q test colon) }
-before (values.Trimming q suffix longest) r = record r { opening = Some (openings.Trimming q suffix longest) }
+before (values.Opening o) r = record r { opening = Some o }
 before (values.Expr e) r = record r { expr = Some e }
 before (values.Word w) r = record r { words = w ∷ r.words }
 before (values.Op o) r = record r { op = Some o }
@@ -85,8 +84,7 @@ put_before : (p : Picked) (v : Value) (r : Picked) → joined (put p v) r ≡ jo
 put_before p (values.Name n) r = ap (λ o. record (joined p r) { name = o }) (kept p.name n r.name)
 put_before p (values.Digit d) r = ap (λ o. record (joined p r) { digit = o }) (kept p.digit d r.digit)
 put_before p (values.Part x) r = ap (λ l. record (joined p r) { parts = l }) (append_assoc p.parts (x ∷ []) r.parts)
-put_before p (values.Filling q test colon) r = ap (λ o. record (joined p r) { opening = o }) (kept p.opening (openings.Filling q test colon) r.opening)
-put_before p (values.Trimming q suffix longest) r = ap (λ o. record (joined p r) { opening = o }) (kept p.opening (openings.Trimming q suffix longest) r.opening)
+put_before p (values.Opening q) r = ap (λ o. record (joined p r) { opening = o }) (kept p.opening q r.opening)
 put_before p (values.Expr e) r = ap (λ o. record (joined p r) { expr = o }) (kept p.expr e r.expr)
 put_before p (values.Word w) r = ap (λ l. record (joined p r) { words = l }) (append_assoc p.words (w ∷ []) r.words)
 put_before p (values.Op op') r = ap (λ o. record (joined p r) { op = o }) (kept p.op op' r.op)
@@ -212,8 +210,8 @@ sorted_seen [] = refl
 sorted_seen (values.Name n ∷ vs) = ap (λ (k : Kinds). record k { text = n.text }) (sorted_seen vs)
 sorted_seen (values.Digit d ∷ vs) = ap (λ (k : Kinds). record k { digit = Some d }) (sorted_seen vs)
 sorted_seen (values.Part x ∷ vs) = ap (λ (k : Kinds). record k { parts = shape.part (view_part x) k.parts; operands = shape.word (shape.part (view_part x) shape.no_part) k.operands }) (sorted_seen vs)
-sorted_seen (values.Filling q test colon ∷ vs) = ap (λ (k : Kinds). record k { fills = λ w. shape.param (view_param q) (shape.fill (view_test test) colon w) }) (sorted_seen vs)
-sorted_seen (values.Trimming q suffix longest ∷ vs) = ap (λ (k : Kinds). record k { fills = λ w. shape.param (view_param q) (shape.trim suffix longest w) }) (sorted_seen vs)
+sorted_seen (values.Opening (openings.Filling q test colon) ∷ vs) = ap (λ (k : Kinds). record k { fills = λ w. shape.param (view_param q) (shape.fill (view_test test) colon w) }) (sorted_seen vs)
+sorted_seen (values.Opening (openings.Trimming q suffix longest) ∷ vs) = ap (λ (k : Kinds). record k { fills = λ w. shape.param (view_param q) (shape.trim suffix longest w) }) (sorted_seen vs)
 sorted_seen (values.Expr e ∷ vs) = ap (λ (k : Kinds). record k { sums = shape.arith e }) (sorted_seen vs)
 sorted_seen (values.Word w ∷ vs) = ap (λ (k : Kinds). record k { words = shape.word (view_word w) k.words; one_word = view_word w; one_value = shape.value (view_word w) }) (sorted_seen vs)
 sorted_seen (values.Op o ∷ vs) = ap (λ (k : Kinds). record k { aims = aimed_of (Some o) }) (sorted_seen vs)

@@ -39,16 +39,9 @@ bound : (o : Read) (f g : List Node → State → Read) → ((o >>= λ y. f y.0 
 bound None f g = refl
 bound (Some y) f g = refl
 
-items_one : (n : ℕ) (ds : List Text) (u : Unit) (rest : List Item) (ts : List Todo) (xs : List Node) (s : State) → go_on n ds (tasks.items (items.One u ∷ rest) ∷ ts) xs s ≡ go_on n ds (tasks.unit u ∷ tasks.items rest ∷ ts) xs s
-items_one n ds u rest ts xs s = ap (λ (o : Read). o >>= λ y. go_on n ds ts y.0 y.1) (one_goes n ds u rest xs s) ∙ bound (goes n ds (tables.unit u) xs s) (goes n ds (items_gram rest)) (go_on n ds ts)
-
 sided : (n : ℕ) (ds : List Text) (w : Bool) (u v : Unit) (xs : List Node) (s : State) → cond w (goes n ds (tables.unit u) xs s) (goes n ds (tables.unit v) xs s) ≡ goes n ds (tables.unit (cond w u v)) xs s
 sided n ds true u v xs s = refl
 sided n ds false u v xs s = refl
-
-pub one_next : (n : ℕ) (ds : List Text) (u : Unit) (rest : List Item) (ts : List Todo) (xs : List Node) (s : State) → go_on n ds (tasks.items (items.One u ∷ rest) ∷ ts) xs s ≡ go_on n ds (tasks.unit u ∷ then_items rest ts) xs s
-one_next n ds u [] ts xs s = refl
-one_next n ds u (y ∷ ys) ts xs s = items_one n ds u (y ∷ ys) ts xs s
 
 one_of : (n : ℕ) (ds : List Text) (t : _) (u v : Unit) (xs : List Node) (s : State) →
     cond (holds (tables.test t) s) (goes n ds (tables.unit u) xs s) (goes n ds (tables.unit v) xs s) ≡ goes n ds (tables.unit (cond (holds (tables.test t) (start_at 0 s.bytes)) u v)) xs s
@@ -74,16 +67,6 @@ where_next n ds t (y ∷ ys) ts xs s h = items_where n ds t (y ∷ ys) ts xs s h
 pub where_ends : (n : ℕ) (ds : List Text) (t : _) (rest : List Item) (ts : List Todo) (xs : List Node) (s : State) → holds (tables.test t) (start_at 0 s.bytes) ≡ false →
     go_on n ds (tasks.items (items.Where t ∷ rest) ∷ ts) xs s ≡ go_on n ds ts xs s
 where_ends n ds t rest ts xs s h = rw (where_goes n ds t rest xs s, ← holds_bytes (tables.test t) s, h) refl
-
-items_star : (n : ℕ) (ds : List Text) (t : _) (u : Unit) (rest : List Item) (ts : List Todo) (xs : List Node) (s : State) → go_on n ds (tasks.items (items.Star t u ∷ rest) ∷ ts) xs s ≡ go_on n ds (tasks.turns t u ∷ tasks.items rest ∷ ts) xs s
-items_star n ds t u rest ts xs s =
-    ap (λ (o : Read). o >>= λ y. go_on n ds ts y.0 y.1) (stars_go n ds t u rest xs s)
-    ∙ bound (behind xs (vals (sh n ds) (star (tables.test t) (tables.unit u)) s)) (goes n ds (items_gram rest)) (go_on n ds ts)
-
-pub star_next : (n : ℕ) (ds : List Text) (t : _) (u : Unit) (rest : List Item) (ts : List Todo) (xs : List Node) (s : State) →
-    go_on n ds (tasks.items (items.Star t u ∷ rest) ∷ ts) xs s ≡ go_on n ds (tasks.unit units.Pass ∷ tasks.turns t u ∷ then_items rest ts) xs s
-star_next n ds t u [] ts xs s = refl
-star_next n ds t u (y ∷ ys) ts xs s = items_star n ds t u (y ∷ ys) ts xs s
 
 -- the same, as a turn has it: behind the bytes that are ahead, with the tasks that are then there
 
@@ -162,9 +145,6 @@ unless_fails n ds t ts xs s h = rw (← holds_bytes (tables.test t) s, h) refl
 
 pub unless_goes : (n : ℕ) (ds : List Text) (t : _) (ts : List Todo) (xs : List Node) (s : State) → holds (tables.test t) (start_at 0 s.bytes) ≡ false → go_on n ds (tasks.unit (units.Unless t) ∷ ts) xs s ≡ go_on n ds ts xs s
 unless_goes n ds t ts xs s h = rw (← holds_bytes (tables.test t) s, h) refl
-
-pub unit_done : (n : ℕ) (ds : List Text) (u : Unit) (ts : List Todo) (xs ks : List Node) (s m : State) → goes n ds (tables.unit u) xs s ≡ Some (ks, m) → go_on n ds (tasks.unit u ∷ ts) xs s ≡ go_on n ds ts ks m
-unit_done n ds u ts xs ks s m e = rw e refl
 
 -- the task that is taken off was in front
 pub popped : (before after : List Task) (t : Task) → before ≡ after ++ t ∷ [] → todos before ≡ todo_of t ∷ todos after

@@ -78,13 +78,6 @@ pub record SoFar (text rest : Text) (front : List Node) : Type 0 where
   pub stop : (stop_from (start_at 0 text)).bytes ≡ (stop_from (start_at 0 rest)).bytes
   pub fits : length rest ≤ length text
 
-all_behind : (o : Option (List Node)) → o ≡ (o >>= λ ns. Some ns)
-all_behind None = refl
-all_behind (Some ns) = refl
-
-pub so_far_starts : (text : Text) → SoFar text text []
-so_far_starts text = record { nodes = all_behind (nodes_from (start_at 0 text)); stop = refl; fits = omega arith }
-
 put_behind : (o : Option (List Node)) (xs ys : List Node) → ((o >>= λ ns. Some (ys ++ ns)) >>= λ ns. Some (xs ++ ns)) ≡ (o >>= λ ns. Some ((xs ++ ys) ++ ns))
 put_behind None xs ys = refl
 put_behind (Some ns) xs ys = ap (λ r. Some r) (sym (append_assoc xs ys ns))

@@ -14,8 +14,8 @@ use Rattle.sh_syntax.specs.declared.tree.Pipeline.{Pipeline}
 use Rattle.sh_syntax.specs.declared.tree.Script.{Script}
 use Rattle.sh_syntax.specs.View.{view, view_param, view_test, view_part, view_word, view_operator, view_kind, view_command, view_pipeline, words_of}
 use Rattle.sh_parser.specs.declared.picking.Picked.{Picked}
-use Rattle.sh_parser.specs.declared.picking.Opening.{Opening}
-use Rattle.sh_parser.specs.declared.picking.Opening.TheVariants as openings
+use Rattle.sh_parser.specs.declared.values.Opening.{Opening}
+use Rattle.sh_parser.specs.declared.values.Opening.TheVariants as openings
 use Rattle.sh_parser.specs.declared.values.Value.{Value}
 use Rattle.sh_parser.specs.declared.values.Value.TheVariants as values
 
@@ -63,8 +63,7 @@ abbrev pub put : Picked → Value → Picked
 put p (values.Name n) = record p { name = first p.name (Some n) }
 put p (values.Digit d) = record p { digit = first p.digit (Some d) }
 put p (values.Part x) = record p { parts = p.parts ++ x ∷ [] }
-put p (values.Filling q test colon) = record p { opening = first p.opening (Some (openings.Filling q test colon)) }
-put p (values.Trimming q suffix longest) = record p { opening = first p.opening (Some (openings.Trimming q suffix longest)) }
+put p (values.Opening o) = record p { opening = first p.opening (Some o) }
 put p (values.Expr e) = record p { expr = first p.expr (Some e) }
 put p (values.Word w) = record p { words = p.words ++ w ∷ [] }
 put p (values.Op o) = record p { op = first p.op (Some o) }

@@ -6,6 +6,7 @@ use Rattle.sh_grammar.specs.State.{Node, text_node, digit_node, part_node, head_
 use Rattle.sh_syntax.specs.declared.tree.Joint.{Joint}
 use Rattle.sh_syntax.specs.declared.tree.Joint.TheVariants.{And, Or}
 use Rattle.sh_syntax.specs.View.{view, view_param, view_test, view_part, view_word, view_redirect, view_assign, view_command, view_kind, view_pipeline, view_item, view_case_item, view_operator, words_of}
+use Rattle.sh_parser.specs.declared.values.Opening.TheVariants as openings
 use Rattle.sh_parser.specs.declared.values.Value.{Value}
 use Rattle.sh_parser.specs.declared.values.Value.TheVariants as values
 
@@ -17,8 +18,8 @@ abbrev pub value_node : Value → Node
 value_node (values.Name n) = text_node n.text
 value_node (values.Digit d) = digit_node d
 value_node (values.Part p) = part_node (view_part p)
-value_node (values.Filling p t colon) = head_node (filling (view_param p) (view_test t) colon)
-value_node (values.Trimming p suffix longest) = head_node (trimming (view_param p) suffix longest)
+value_node (values.Opening (openings.Filling p t colon)) = head_node (filling (view_param p) (view_test t) colon)
+value_node (values.Opening (openings.Trimming p suffix longest)) = head_node (trimming (view_param p) suffix longest)
 value_node (values.Expr e) = expr_node e
 value_node (values.Word w) = word_node (view_word w)
 value_node (values.Op op) = op_node (view_operator op)

@@ -5,7 +5,6 @@ ghost use Rattle.sh_grammar.specs.Bytes as bytes_of;
 ghost use Rattle.sh_grammar.specs.Tokens as tokens;
 ghost use Rattle.sh_grammar.specs.State.{start_at};
 ghost use Rattle.sh_grammar.specs.Steps as steps;
-ghost use Rattle.sh_parser.specs.Kinds as kinds;
 ghost use Rattle.sh_parser.specs.Tables as tables;
 
 use crate::class::unit_starts;

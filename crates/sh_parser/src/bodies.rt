@@ -1,15 +1,14 @@
 //! Bodies of here-documents, and bytes in single quotes.
 
-ghost use Rattle.std.specs.Prelude.{◌≡◌, ◌==◌, ◌&&◌, ◌∷◌, true, false, not, None};
+ghost use Rattle.std.specs.Prelude.{◌≡◌, ◌∷◌, true, false, None};
 ghost use Rattle.sh_grammar.specs.Bytes as bytes_of;
 ghost use Rattle.sh_grammar.specs.Bodies as bodies;
 ghost use Rattle.sh_grammar.specs.Steps as steps;
 ghost use Rattle.sh_parser.specs.Answers.{Gives, Shows};
 ghost use Rattle.sh_parser.specs.Owing.{owed_of, place_of, continued, plain_from, is_kept, is_joins};
 
-use crate::delimiters::is_join;
 use crate::fault::Stop;
-use crate::gaps::behind_join;
+use crate::gaps::{behind_join, is_join};
 use span_text::Text;
 use std::alloc::Global;
 

@@ -1,6 +1,6 @@
 //! Kinds of bytes (POSIX 2.2, 2.3, 2.6).
 
-ghost use Rattle.std.specs.Prelude.{◌≡◌, ◌==◌};
+ghost use Rattle.std.specs.Prelude.{◌≡◌};
 ghost use Rattle.span_text.specs.Names as names;
 ghost use Rattle.sh_grammar.specs.Bytes as bytes_of;
 ghost use Rattle.sh_parser.specs.Kinds.{context};

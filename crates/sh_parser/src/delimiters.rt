@@ -1,6 +1,6 @@
 //! Delimiters of here-documents (POSIX 2.7.4).
 
-ghost use Rattle.std.specs.Prelude.{◌≡◌, ◌==◌, ◌&&◌, ◌∷◌};
+ghost use Rattle.std.specs.Prelude.{◌≡◌, ◌==◌, ◌∷◌};
 ghost use Rattle.sh_grammar.specs.Bytes as bytes_of;
 ghost use Rattle.sh_grammar.specs.Bodies as bodies;
 ghost use Rattle.sh_parser.specs.Answers.{Gives};
@@ -8,7 +8,7 @@ ghost use Rattle.sh_parser.specs.Delimiters.{mode, continued, ended, shown};
 
 use crate::class::{Context, is_escaped, is_plain, unit_starts};
 use crate::fault::Stop;
-use crate::gaps::clear;
+use crate::gaps::{clear, is_join};
 use span_text::Text;
 use std::alloc::Global;
 
@@ -48,15 +48,6 @@ pub enum Turn {
 pub struct Delimiter {
     pub text: Text,
     pub quoted: bool,
-}
-
-pub fn is_join(b: u8, after: &[u8]) -> bool
-    ensures { result ≡ bytes_of.is_join b after.now }
-{
-    match after {
-        [] => false,
-        [c, ..] => b == b'\\' && *c == b'\n',
-    }
 }
 
 /// Whether the `$` before these bytes begins what no delimiter may hold.

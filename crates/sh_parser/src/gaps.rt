@@ -1,6 +1,6 @@
 //! Joins, blanks and comments.
 
-ghost use Rattle.std.specs.Prelude.{◌≡◌, ◌==◌, ◌∷◌, ◌≤◌, length, true};
+ghost use Rattle.std.specs.Prelude.{◌≡◌, ◌∷◌, ◌≤◌, length, true};
 ghost use Rattle.sh_grammar.specs.Bytes as bytes_of;
 
 /// Without the joins at the front: a backslash and a newline count as removed.
@@ -19,6 +19,16 @@ pub fn clear(bytes: &[u8]) -> &[u8]
             },
             [_, ..] => return rest,
         }
+    }
+}
+
+/// Whether this byte and those behind it begin with a join.
+pub fn is_join(b: u8, after: &[u8]) -> bool
+    ensures { result ≡ bytes_of.is_join b after.now }
+{
+    match after {
+        [] => false,
+        [c, ..] => b == b'\\' && *c == b'\n',
     }
 }
 

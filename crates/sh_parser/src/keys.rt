@@ -1,6 +1,6 @@
 //! Reserved words (POSIX 2.4), and what may come next.
 
-ghost use Rattle.std.specs.Prelude.{◌≡◌, ◌==◌, ◌&&◌};
+ghost use Rattle.std.specs.Prelude.{◌≡◌};
 ghost use Rattle.sh_grammar.specs.Tokens as tokens;
 ghost use Rattle.sh_parser.specs.Kinds as kinds;
 

@@ -1,23 +1,16 @@
 //! Parts of words that hold no others.
 
-ghost use Rattle.std.specs.Prelude.{◌≡◌, ◌==◌, ◌∷◌, ◌||◌, ◌&&◌, not, ℕ, List, [], map, Some, if◌then◌else◌};
-ghost use Rattle.sh_grammar.specs.Bytes.{Text as Bytes};
-ghost use Rattle.text_grammar.specs.Grammar.{rule, star, choose, pass, fail, step, seq};
-ghost use Rattle.text_grammar.specs.Values.{vals, behind, go, stepped};
-ghost use Rattle.text_grammar.specs.Answers.{views};
+ghost use Rattle.std.specs.Prelude.{◌≡◌, ◌∷◌, ◌&&◌, [], Some};
+ghost use Rattle.text_grammar.specs.Values.{stepped};
 ghost use Rattle.sh_grammar.specs.Bytes as bytes_of;
 ghost use Rattle.sh_grammar.specs.State.{part_node};
-ghost use Rattle.sh_grammar.specs.Tokens as tokens;
 ghost use Rattle.sh_grammar.specs.Table as table;
 ghost use Rattle.sh_grammar.specs.Steps as steps;
-ghost use Rattle.sh_grammar.specs.Sums as sums;
 ghost use Rattle.sh_grammar.specs.Steps.{Known};
-ghost use Rattle.sh_grammar.specs.Spelling.{sh};
-ghost use Rattle.sh_syntax.specs.View.{parts_of, view_part, view_operator};
 ghost use Rattle.sh_parser.specs.Kinds as kinds;
 ghost use Rattle.sh_parser.specs.Answers.{Gives};
 ghost use Rattle.sh_parser.specs.Views as views_of;
-ghost use Rattle.sh_parser.specs.Views.{known, state};
+ghost use Rattle.sh_parser.specs.Views.{state};
 ghost use Rattle.sh_parser.specs.Values.{optional_nodes};
 ghost use Rattle.std.specs.Prelude.{◌&&◌};
 ghost use Rattle.sh_syntax.specs.View.{view_op, view_part_kind};
@@ -32,7 +25,7 @@ use crate::notes::{LIMIT, Notes, param_of, part_of_kind};
 use crate::params::{Head, dollar_head, dollar_param};
 use crate::runs::{Run, is_bare_dollar, run_end, run_text};
 use crate::steps::byte_of;
-use crate::values::Value;
+use crate::values::{Opening, Value};
 use sh_syntax::{ParamOp, PartKind};
 use span_text::Text;
 use std::alloc::Global;
@@ -227,7 +220,8 @@ pub fn head_of<'a>(
     match dollar_head(bytes) {
         Some((Head::Filling { param, test, colon }, rest)) => {
             let param = param_of(alloc, notes, param)?;
-            Ok((Some(Value::Filling { param, test, colon }), rest))
+            let opening = Opening::Filling { param, test, colon };
+            Ok((Some(Value::Opening(opening)), rest))
         }
         Some(
             (
@@ -240,14 +234,12 @@ pub fn head_of<'a>(
             ),
         ) => {
             let param = param_of(alloc, notes, param)?;
-            Ok((
-                Some(Value::Trimming {
-                    param,
-                    suffix,
-                    longest,
-                }),
-                rest,
-            ))
+            let opening = Opening::Trimming {
+                param,
+                suffix,
+                longest,
+            };
+            Ok((Some(Value::Opening(opening)), rest))
         }
         Some((Head::Closed { .. }, _)) => Err(Stop::Bad),
         None => Err(Stop::Bad),

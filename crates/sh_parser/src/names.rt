@@ -1,6 +1,6 @@
 //! Names, assignments and tildes at the front of a word.
 
-ghost use Rattle.std.specs.Prelude.{◌≡◌, ◌==◌, ◌&&◌, ◌||◌, not};
+ghost use Rattle.std.specs.Prelude.{◌≡◌, ◌==◌, ◌||◌, not};
 ghost use Rattle.span_text.specs.Names as names;
 ghost use Rattle.sh_grammar.specs.Bytes as bytes_of;
 ghost use Rattle.sh_grammar.specs.Tokens as tokens;

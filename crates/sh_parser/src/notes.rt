@@ -1,6 +1,6 @@
 //! Where reading is, beside the bytes ahead.
 
-ghost use Rattle.std.specs.Prelude.{◌≡◌, [], Some};
+ghost use Rattle.std.specs.Prelude.{◌≡◌, Some};
 ghost use Rattle.sh_grammar.specs.Bytes.{Text as Bytes};
 ghost use Rattle.sh_grammar.specs.State.{start_at};
 ghost use Rattle.sh_parser.specs.Answers.{Gives};

@@ -1,7 +1,6 @@
 //! What stands behind a `$` (POSIX 2.5.1, 2.5.2, 2.6).
 
-ghost use Rattle.std.specs.Prelude.{◌≡◌, ◌==◌, ◌&&◌};
-ghost use Rattle.sh_grammar.specs.Bytes as bytes_of;
+ghost use Rattle.std.specs.Prelude.{◌≡◌};
 ghost use Rattle.sh_grammar.specs.Expansions as expansions;
 ghost use Rattle.sh_parser.specs.Answers.{Shows};
 ghost use Rattle.sh_parser.specs.Heads as heads;

@@ -5,28 +5,13 @@ ghost use Rattle.sh_parser.specs.Answers.{Gives};
 ghost use Rattle.sh_parser.specs.Picking as picking;
 
 use crate::fault::Stop;
-use crate::values::Value;
+use crate::values::{Opening, Value};
 use sh_syntax::{
-    Assign, CaseItem, Command, CommandKind, FillTest, Item, Joint, Name, Param, Part, Pipeline,
-    Redirect, RedirectOp, Script, Word,
+    Assign, CaseItem, Command, CommandKind, Item, Joint, Name, Part, Pipeline, Redirect,
+    RedirectOp, Script, Word,
 };
 use span_text::{Expr, List};
 use std::alloc::Global;
-
-/// What stands before the word in `${a-w}` and `${a%%w}`.
-#[derive(Drop)]
-pub enum Opening {
-    Filling {
-        param: Param,
-        test: FillTest,
-        colon: bool,
-    },
-    Trimming {
-        param: Param,
-        suffix: bool,
-        longest: bool,
-    },
-}
 
 /// Values by their kinds: those of a kind in their order, or the first where a rule takes one.
 #[derive(Drop)]
@@ -116,21 +101,7 @@ impl Picked {
             Value::Name(name) => keep(&mut self.name, name),
             Value::Digit(digit) => keep(&mut self.digit, digit),
             Value::Part(part) => self.parts.push(part)?,
-            Value::Filling { param, test, colon } => {
-                keep(&mut self.opening, Opening::Filling { param, test, colon })
-            }
-            Value::Trimming {
-                param,
-                suffix,
-                longest,
-            } => keep(
-                &mut self.opening,
-                Opening::Trimming {
-                    param,
-                    suffix,
-                    longest,
-                },
-            ),
+            Value::Opening(opening) => keep(&mut self.opening, opening),
             Value::Expr(expr) => keep(&mut self.expr, expr),
             Value::Word(word) => self.words.push(word)?,
             Value::Op(op) => keep(&mut self.op, op),

@@ -3,7 +3,7 @@
 //! What is still to be read stands on a stack of tasks in memory, so the program's own stack doesn't grow with a text: only
 //! the bodies of here-documents in one another lead back to themselves.
 
-ghost use Rattle.std.specs.Prelude.{◌≡◌, ◌∷◌, ℕ, List, [], Some, if◌then◌else◌};
+ghost use Rattle.std.specs.Prelude.{◌∷◌, List, [], Some, if◌then◌else◌};
 ghost use Rattle.text_grammar.specs.Grammar.{rule};
 ghost use Rattle.text_grammar.specs.Values.{vals, stepped};
 ghost use Rattle.sh_grammar.specs.Bytes.{Text as Bytes};
@@ -43,14 +43,9 @@ pub fn rule_of<'a>(
     ensures { Gives (λ x. (nodes x.0, state x.1.now notes.new)) result (vals (sh levels bodies.now) (rule (tables.rule wanted)) (state bytes.now notes.old)) }
 {
     let mut tasks = Vec::new(alloc);
-    let start = unit_turn(
-        alloc,
-        Unit::Rule(wanted),
-        List::new(alloc),
-        bytes,
-        &mut tasks,
-        notes,
-    )?;
+    let unit = Unit::Rule(wanted);
+    let none = List::new(alloc);
+    let start = unit_turn(alloc, unit, none, bytes, &mut tasks, notes)?;
     let (mut values, mut rest) = start;
     let mut left = TURNS;
     'turns: loop {

@@ -1,20 +1,13 @@
 //! Redirections (POSIX 2.7).
 
-ghost use Rattle.std.specs.Prelude.{◌≡◌, ◌==◌, ◌∷◌, ◌||◌, ◌&&◌, not, ℕ, List, [], map, Some, if◌then◌else◌};
-ghost use Rattle.sh_grammar.specs.Bytes.{Text as Bytes};
-ghost use Rattle.text_grammar.specs.Grammar.{rule, star, choose, pass, fail, step, seq};
-ghost use Rattle.text_grammar.specs.Values.{vals, behind, go, stepped};
-ghost use Rattle.text_grammar.specs.Answers.{views};
-ghost use Rattle.sh_grammar.specs.Bytes as bytes_of;
-ghost use Rattle.sh_grammar.specs.State.{word_node};
+ghost use Rattle.std.specs.Prelude.{◌≡◌, map, Some, if◌then◌else◌};
+ghost use Rattle.text_grammar.specs.Grammar.{step};
+ghost use Rattle.text_grammar.specs.Values.{stepped};
 ghost use Rattle.sh_grammar.specs.Tokens as tokens;
 ghost use Rattle.sh_grammar.specs.Table as table;
 ghost use Rattle.sh_grammar.specs.Steps as steps;
-ghost use Rattle.sh_grammar.specs.Sums as sums;
 ghost use Rattle.sh_grammar.specs.Steps.{Known};
-ghost use Rattle.sh_grammar.specs.Spelling.{sh};
-ghost use Rattle.sh_syntax.specs.View.{view_word, parts_of, view_part, view_operator};
-ghost use Rattle.sh_parser.specs.Kinds as kinds;
+ghost use Rattle.sh_syntax.specs.View.{parts_of, view_part, view_operator};
 ghost use Rattle.sh_parser.specs.Answers.{Gives};
 ghost use Rattle.sh_parser.specs.Views as views_of;
 ghost use Rattle.sh_parser.specs.Views.{state};

@@ -1,6 +1,6 @@
 //! The longest front of bytes of one kind, with joins between them left out.
 
-ghost use Rattle.std.specs.Prelude.{◌≡◌, ◌==◌, false};
+ghost use Rattle.std.specs.Prelude.{◌≡◌, false};
 ghost use Rattle.span_text.specs.KnownNames.{same_text};
 ghost use Rattle.sh_grammar.specs.Bytes as bytes_of;
 ghost use Rattle.sh_parser.specs.Kinds as kinds;

@@ -1,15 +1,12 @@
 //! Whole texts.
 
-ghost use Rattle.std.specs.Prelude.{◌≡◌, ◌<◌, ◌^◌, ◌++◌, ◌-◌, ℕ, List, length, Option, Some, IfOk, IfErr};
-ghost use Rattle.text_grammar.specs.Grammar.{rule, choose, step};
-ghost use Rattle.text_grammar.specs.Values.{vals, go};
+ghost use Rattle.std.specs.Prelude.{◌≡◌, ◌<◌, ◌^◌, ◌-◌, length, Some, IfOk, IfErr};
+ghost use Rattle.text_grammar.specs.Grammar.{rule};
+ghost use Rattle.text_grammar.specs.Values.{vals};
 ghost use Rattle.sh_grammar.specs.Bytes as bytes_of;
 ghost use Rattle.sh_grammar.specs.Shape as shape;
 ghost use Rattle.sh_grammar.specs.State.{chains_in};
-ghost use Rattle.sh_grammar.specs.Tokens as tokens;
 ghost use Rattle.sh_grammar.specs.Table as table;
-ghost use Rattle.sh_grammar.specs.Steps as steps;
-ghost use Rattle.sh_grammar.specs.Steps.{Known};
 ghost use Rattle.sh_grammar.specs.Spelling.{sh_with, Reads, IsErrorAt};
 ghost use Rattle.sh_syntax.specs.View.{view};
 ghost use Rattle.sh_parser.specs.Answers.{Gives};

@@ -1,6 +1,6 @@
 //! Steps of the grammar that give no part of a word, and names.
 
-ghost use Rattle.std.specs.Prelude.{◌≡◌, ◌∷◌, ◌++◌, ◌-◌, ◌&&◌, map, suc, [], Some, None, if◌then◌else◌, nat_lt};
+ghost use Rattle.std.specs.Prelude.{◌≡◌, ◌-◌, ◌&&◌, map, suc, [], None, if◌then◌else◌, nat_lt};
 ghost use Rattle.sh_grammar.specs.Bytes as bytes_of;
 ghost use Rattle.sh_grammar.specs.Bytes.{Text as Bytes};
 ghost use Rattle.sh_grammar.specs.Tokens as tokens;
@@ -8,7 +8,6 @@ ghost use Rattle.sh_grammar.specs.Steps as steps;
 ghost use Rattle.sh_grammar.specs.Steps.{when};
 ghost use Rattle.sh_grammar.specs.Bodies as bodies;
 ghost use Rattle.sh_parser.specs.Owing.{owed_of};
-ghost use Rattle.sh_grammar.specs.Table as table;
 ghost use Rattle.sh_parser.specs.Kinds as kinds;
 ghost use Rattle.sh_parser.specs.Answers.{Gives};
 ghost use Rattle.sh_parser.specs.Views.{state, whole_name, found_behind, lined};

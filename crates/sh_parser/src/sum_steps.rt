@@ -1,6 +1,4 @@
 //! The steps of arithmetic expansions (POSIX 2.6.4).
-
-ghost use Rattle.std.specs.Prelude.{◌≡◌};
 ghost use Rattle.text_grammar.specs.Values.{stepped};
 ghost use Rattle.sh_grammar.specs.Expansions as expansions;
 ghost use Rattle.sh_grammar.specs.Table as table;

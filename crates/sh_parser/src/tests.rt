@@ -6,8 +6,10 @@ use std::process::Abort;
 use std::test::Fail;
 
 mod back;
+mod borders;
 mod commands;
 mod deep;
+mod joins;
 mod picture;
 mod refused;
 mod words;

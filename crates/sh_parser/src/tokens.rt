@@ -1,6 +1,6 @@
 //! Operators, each the longest at its place (POSIX 2.3).
 
-ghost use Rattle.std.specs.Prelude.{◌≡◌, ◌==◌, ◌&&◌, ◌∷◌, length, true, if◌then◌else◌};
+ghost use Rattle.std.specs.Prelude.{◌≡◌, ◌==◌, ◌∷◌, length, true, if◌then◌else◌};
 ghost use Rattle.span_text.specs.Names.{is_digit as digit};
 ghost use Rattle.sh_grammar.specs.Bytes.{starts, digit_run, in_word};
 ghost use Rattle.sh_grammar.specs.Bytes as bytes_of;

@@ -11,13 +11,9 @@ use sh_syntax::{
 };
 use span_text::{Expr, List};
 
-/// What was read.
+/// What stands before the word in `${a-w}` and `${a%%w}`.
 #[derive(Drop)]
-pub enum Value {
-    Name(Name),
-    /// The digit before `<` or `>`.
-    Digit(u8),
-    Part(Part),
+pub enum Opening {
     /// `${a-`.
     Filling {
         param: Param,
@@ -30,6 +26,16 @@ pub enum Value {
         suffix: bool,
         longest: bool,
     },
+}
+
+/// What was read.
+#[derive(Drop)]
+pub enum Value {
+    Name(Name),
+    /// The digit before `<` or `>`.
+    Digit(u8),
+    Part(Part),
+    Opening(Opening),
     Expr(Expr),
     Word(Word),
     Op(RedirectOp),

@@ -1,6 +1,6 @@
 //! Compound commands but for `for` and `case`, and functions (POSIX 2.9.4, 2.9.5).
 
-ghost use Rattle.std.specs.Prelude.{Some, true, false};
+ghost use Rattle.std.specs.Prelude.{Some};
 ghost use Rattle.sh_grammar.specs.Acts as acts;
 ghost use Rattle.sh_grammar.specs.Shape as shape;
 ghost use Rattle.sh_grammar.specs.State as states;

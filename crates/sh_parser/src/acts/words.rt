@@ -12,9 +12,9 @@ ghost use Rattle.sh_syntax.specs.View.{view_part, view_part_kind, view_word, wor
 
 use crate::acts::single::{one, script, word};
 use crate::fault::Stop;
-use crate::picking::{Opening, Picked, pick};
+use crate::picking::{Picked, pick};
 use crate::table::{DollarRule, WordRule};
-use crate::values::Value;
+use crate::values::{Opening, Value};
 use sh_syntax::{Arith, ParamOp, Part, PartKind, Word};
 use span_text::{Expr, List, Span, Text};
 use std::alloc::Global;

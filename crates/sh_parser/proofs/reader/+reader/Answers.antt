@@ -61,7 +61,7 @@ here_of-returns t c =
 
 pub rule_of-turns-init : goal.rule_of-turns-init
 rule_of-turns-init t c = (
-  begins c.args.levels c.args.bodies.now c.args.wanted c.new-tasks.result.items c.unit_turn.new.tasks.items c.new.result c.in_ok-start.start.0 (state c.args.bytes.now c.args.notes.now) (state c.in_ok-start.start.1.now c.unit_turn.new.notes) c.new-tasks.ensures.items c.new.ensures (c.in_ok-start.ensures.turns c.args.levels c.args.bodies.now),
+  begins c.args.levels c.args.bodies.now c.args.wanted c.new-tasks.result.items c.unit_turn.new.tasks.items c.new-none.result c.in_ok-start.start.0 (state c.args.bytes.now c.args.notes.now) (state c.in_ok-start.start.1.now c.unit_turn.new.notes) c.new-tasks.ensures.items c.new-none.ensures (c.in_ok-start.ensures.turns c.args.levels c.args.bodies.now),
   c.in_ok-start.ensures.ready (nothing_ready c.new-tasks.result.items c.new-tasks.ensures.items),
 )
 
