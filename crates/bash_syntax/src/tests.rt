@@ -71,10 +71,7 @@ fn test_of_member(alloc: Global, at: Span) -> Result<Script, Memory> {
         arith: Ok(expr),
         span: span(9, 12),
     };
-    let param = Param::Member(
-        name(alloc, b"a", at)?,
-        Boxed::new(alloc, sub)?,
-    );
+    let param = Param::Member(name(alloc, b"a", at)?, Boxed::new(alloc, sub)?);
     let part = PartKind::Param {
         param,
         op: ParamOp::Plain,
