@@ -59,7 +59,7 @@ by_status then_run else_run n s = choose (succeeded s.own) then_run else_run n s
 abbrev pub first_then : Do Flow Own → Do Flow Own → Do Flow Own
 first_then first next n s = after (first n s) (if_normal next)
 
--- whether a loop goes on (2.9.4.4, 2.9.4.5)
+-- whether a loop goes on (2.9.4.5, 2.9.4.6)
 abbrev pub goes : (until : Bool) → Own → Bool
 goes false o = succeeded o
 goes true o = not (succeeded o)
@@ -186,7 +186,7 @@ abbrev mutual
       around (redirects false) (behind (subject_run (checked w (parts_run z call in_value First w (nothing false))) (items_run_from z call place is))) (failed_run z.world) n s
   kind_run z call place redirects (function name body) n s = around (redirects false) (behind (defined_run name body)) (failed_run z.world) n s
 
-  -- the first body whose test succeeds (2.9.4.3)
+  -- the first body whose test succeeds (2.9.4.4)
   pub branches_run : Setting → Calls → Place → Branches → Do Flow Own → Do Flow Own
   branches_run z call place no_branch rest n s = rest n s
   branches_run z call place (branch test body bs) rest n s =

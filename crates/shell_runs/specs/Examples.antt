@@ -1,5 +1,5 @@
 -- The combinators worked out, for a language whose own part is a status and the descriptors.
-use Rattle.std.specs.Prelude.{◌≡◌, ℕ, true, false, List, [], ◌∷◌, ◌++◌, Option, Some, None, refl, codes}
+use Rattle.std.specs.Prelude.{◌≡◌, ℕ, true, false, [], ◌∷◌, ◌++◌, Option, Some, None, refl, codes}
 use Rattle.shell_world.specs.Texts.{Text}
 use Rattle.shell_world.specs.declared.description.Description.TheVariants.{Given, Output, Errors}
 use Rattle.shell_world.specs.Outside.{Fds, Trace, Outside, open_at, unread, drained, written}
@@ -8,7 +8,7 @@ use Rattle.shell_world.specs.Runs.{St, Res, Ends, GoesOn, Unspecified, Do, after
 use Rattle.shell_runs.specs.Flow.{Flow, Normal, Breaks, Exits}
 use Rattle.shell_runs.specs.Sequences.{if_normal, now}
 use Rattle.shell_runs.specs.Loops.{loop_do}
-use Rattle.shell_runs.specs.Redirecting.{Made, redirected, bracketed, closed_run, copied_run, with_both}
+use Rattle.shell_runs.specs.Redirecting.{redirected, bracketed, closed_run, copied_run, with_both}
 use Rattle.shell_runs.specs.Shells.{substitution_text, in_shell, substitute, stage_run, piped}
 
 pub record Own : Type 0 where

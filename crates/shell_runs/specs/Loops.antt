@@ -1,4 +1,4 @@
--- Loops (POSIX XCU 2.9.4.1, 2.9.4.3, 2.9.4.4). Each start of a body takes a turn. So does a round that a `continue` in a test starts, since it would else start another without any turn.
+-- Loops (POSIX XCU 2.9.4.2, 2.9.4.5, 2.9.4.6). Each start of a body takes a turn. So does a round that a `continue` in a test starts, since it would else start another without any turn.
 use Rattle.std.specs.Prelude.{ℕ, zero, suc, Bool, List, [], ◌∷◌}
 use Rattle.shell_world.specs.Runs.{Ends, Do, after, choose, with_own}
 use Rattle.shell_runs.specs.Flow.{Flow, Normal, Breaks, Continues, Returns, Exits}
