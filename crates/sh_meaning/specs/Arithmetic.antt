@@ -35,15 +35,15 @@ abbrev pub Known : Type 0
 Known = Option Text × (List ℤ → Eval)
 
 infixl 10 ◌>>=◌
-abbrev ◌>>=◌ : Sum → (ℤ × Variables → Sum) → Sum
+abbrev pub ◌>>=◌ : Sum → (ℤ × Variables → Sum) → Sum
 None >>= f = None
 (Some x) >>= f = f x
 
-abbrev gives : Option ℤ → Eval
+abbrev pub gives : Option ℤ → Eval
 gives None vs = None
 gives (Some n) vs = Some (n, vs)
 
-abbrev ok : Result ℤ ArithFault → Option ℤ
+abbrev pub ok : Result ℤ ArithFault → Option ℤ
 ok (Ok n) = Some n
 ok (Err fault) = None
 
@@ -59,35 +59,35 @@ value_in (Some v) = v.value
 abbrev pub number_in : Text → Variables → Option ℤ
 number_in name vs = constant (value_in (lookup name vs))
 
-abbrev is_true : ℤ → Bool
+abbrev pub is_true : ℤ → Bool
 is_true n = not (int_eq n (pos 0))
 
-abbrev unary_value : UnOp → ℤ → ℤ
+abbrev pub unary_value : UnOp → ℤ → ℤ
 unary_value unary.Plus n = n
 unary_value unary.Minus n = int_wrap w64 (pos 0 -ℤ n)
 unary_value unary.Not n = truth (int_eq n (pos 0))
 unary_value unary.Complement n = int_wrap w64 (pos 0 -ℤ n -ℤ pos 1)
 
-abbrev stored : Text → ℤ × Variables → Sum
+abbrev pub stored : Text → ℤ × Variables → Sum
 stored name x = Some (x.0, assign name (number_text x.0) x.1)
 
-abbrev applied : Option BinOp → ℤ → ℤ × Variables → Sum
+abbrev pub applied : Option BinOp → ℤ → ℤ × Variables → Sum
 applied None a y = Some y
 applied (Some op) a y = gives (ok (value_of op a y.0)) y.1
 
 -- the old value is read first, where there is an operator
-abbrev old_value : Option BinOp → Text → Eval
+abbrev pub old_value : Option BinOp → Text → Eval
 old_value None name vs = Some (pos 0, vs)
 old_value (Some op) name vs = gives (number_in name vs) vs
 
-abbrev assigns : Option Text → Option BinOp → Eval → Eval
+abbrev pub assigns : Option Text → Option BinOp → Eval → Eval
 assigns None op e vs = None
 assigns (Some name) op e vs = old_value op name vs >>= λ x. e x.1 >>= λ y. applied op x.0 y >>= λ z. stored name z
 
-abbrev unnamed : (List ℤ → Eval) → Known
+abbrev pub unnamed : (List ℤ → Eval) → Known
 unnamed f = (None, f)
 
-abbrev step : Expr-F Known → Known
+abbrev pub step : Expr-F Known → Known
 step (open_expr.Constant n) = unnamed (λ ns vs. Some (n, vs))
 step (open_expr.Name text) = (Some text, λ ns vs. gives (number_in text vs) vs)
 step (open_expr.Operand k) = unnamed (λ ns vs. gives (nth k ns) vs)
@@ -108,17 +108,17 @@ evaluated e ns vs = (fold-Expr Known step e).1 ns vs
 -- ---- operands with a sign
 
 -- the operands right behind an operator `+` or `-`, with nothing but `(` between; the truth value tells whether one stands before the expression
-abbrev Behind : Type 0
+abbrev pub Behind : Type 0
 Behind = Bool → List ℕ
 
-abbrev both : Behind → Bool → Behind → Behind
+abbrev pub both : Behind → Bool → Behind → Behind
 both a right b left = a left ++ b right
 
-abbrev if_so : Bool → ℕ → List ℕ
+abbrev pub if_so : Bool → ℕ → List ℕ
 if_so true k = k ∷ []
 if_so false k = []
 
-abbrev is_sign : BinOp → Bool
+abbrev pub is_sign : BinOp → Bool
 is_sign Add = true
 is_sign Subtract = true
 is_sign Power = false
@@ -137,13 +137,13 @@ is_sign BitAnd = false
 is_sign BitXor = false
 is_sign BitOr = false
 
-abbrev is_sign_before : UnOp → Bool
+abbrev pub is_sign_before : UnOp → Bool
 is_sign_before unary.Plus = true
 is_sign_before unary.Minus = true
 is_sign_before unary.Not = false
 is_sign_before unary.Complement = false
 
-abbrev behind_step : Expr-F Behind → Behind
+abbrev pub behind_step : Expr-F Behind → Behind
 behind_step (open_expr.Constant n) left = []
 behind_step (open_expr.Name text) left = []
 behind_step (open_expr.Operand k) left = if_so left k

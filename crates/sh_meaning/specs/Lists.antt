@@ -85,7 +85,7 @@ is_used names count = false
 is_used names status = false
 is_used names at = false
 
-abbrev name_step : List Text → Expr-F Bool → Bool
+abbrev pub name_step : List Text → Expr-F Bool → Bool
 name_step names (open_expr.Constant n) = false
 name_step names (open_expr.Name text) = is_among names text
 name_step names (open_expr.Operand k) = false
