@@ -3,7 +3,7 @@ use Rattle.std.proofs.Common.{◌≡◌, ℕ, ◌≤◌, Bool, arith}
 use Rattle.shell_world.specs.declared.world.World.{World}
 use Rattle.shell_world.specs.Runs.{St}
 use Rattle.shell_world.specs.Ends.{IsPrefix, trace_of}
-use Rattle.shell_runs.specs.Bounds.{OutcomeLater, Later, Under}
+use Rattle.shell_runs.specs.Bounds.{OutcomeLater, Later, Under, turns_left}
 use Rattle.shell_runs.specs.Loops.{loop_from, loop_round}
 use Rattle.shell_runs.proofs.Outcomes.{outcome_later, trace_later}
 use Rattle.shell_runs.proofs.Unrolled.{loop_unrolls}
@@ -33,3 +33,6 @@ pub script_loop_unrolls : (z : Setting) (d : ℕ) (place : Place) (until : Bool)
     ≡ loop_round (goes until) status_of with_status (script_run z (level z d) place test) (script_run z (level z d) place body) (loop_from (goes until) status_of with_status (script_run z (level z d) place test) (script_run z (level z d) place body)) last n s
 script_loop_unrolls z d place until test body last n s =
     loop_unrolls (goes until) status_of with_status (script_run z (level z d) place test) (script_run z (level z d) place body) (itself z d place test).spends (itself z d place body).spends last n s
+
+pub result_spends : (world : World) (script : Script) (t d : ℕ) → turns_left (script_result world script t d) ≤ t
+result_spends world script t d = (itself (setting world script) d in_shell_place script).spends t (start world)

@@ -1,7 +1,9 @@
 -- Some runs worked out.
-use Rattle.std.specs.Prelude.{◌≡◌, ℕ, Bool, true, false, List, [], ◌∷◌, Option, Some, None, refl, codes}
+use Rattle.std.specs.Prelude.{map, ◌≡◌, ℕ, Bool, true, false, List, [], ◌∷◌, Option, Some, None, refl, codes, pos}
 use Rattle.std.specs.Fmt.{digits as digits_of}
+use Rattle.std.specs.Int.{int_wrap}
 use Rattle.glob_pattern.specs.Brackets.{class_len, element_len, class_named, class_at, mark_len, body_len, body_of, is_range, member_len, member_at, members_of, is_doubtful, is_bad_range, range_doubt, member_doubt, members_doubt}
+use Rattle.span_text.specs.declared.expr.UnOp.TheVariants as unary
 use Rattle.span_text.specs.Constant.{number_of}
 use Rattle.span_text.specs.KnownNames.{builtins, refused_builtins, standard_words, bash_words, other_commands}
 use Rattle.span_text.specs.Names.{begins_name, continues_name}
@@ -16,6 +18,7 @@ use Rattle.shell_world.specs.Paths.{names_path, path_text}
 use Rattle.shell_world.specs.Ends.{Outcome, Ended, Going, Unknown}
 use Rattle.shell_runs.specs.Shells.{substitution_text}
 use Rattle.sh_grammar.specs.Shape.{plain, double, tilde, param, subst, Parts, no_part, part, as_is, fill, trim, default, Param, named, digits, status, at, Words, no_word, word, value, no_assign, assign, no_redirect, redirect, read, write, Command, command, Kind, simple, group, subshell, loop, cases, item, no_item, walk, function, listed, no_stage, stage, pipeline, no_link, chain, Script, no_chain, next_chain}
+use Rattle.sh_meaning.specs.Arithmetic.{unary_value, number_text, operand_number}
 use Rattle.sh_meaning.specs.Lists.{has_crowded_lists, is_entangled}
 use Rattle.sh_meaning.specs.Pathnames.{field_texts}
 use Rattle.sh_meaning.specs.Simple.{found}
@@ -195,3 +198,14 @@ counting =
 bounds_are : counting ≡ Some (codes "a\na\na\na\na\n") ∷ Some [] ∷ Some (codes "a\na\n") ∷ []
 unfolding number_of is_of behind fields bytes_of has_crowded_lists field_texts found is_export_operand is_export_name is_fit_operand is_literal special_builtin plain_builtin builtin_of builtin_ending builtins refused_builtins standard_words bash_words other_commands
 bounds_are = refl
+
+-- ---- arithmetic (2.6.4)
+
+unary_is : map number_text (unary_value unary.Minus (pos 5) ∷ unary_value unary.Complement (pos 5) ∷ unary_value unary.Not (pos 5) ∷ unary_value unary.Not (pos 0) ∷ []) ≡ codes "-5" ∷ codes "-6" ∷ codes "0" ∷ codes "1" ∷ []
+unfolding int_wrap number_text digits_of
+unary_is = refl
+
+-- `$x` behind a `-` may have no sign
+operands_are : map (operand_number (0 ∷ []) 0) (codes "12" ∷ codes "-12" ∷ codes "a" ∷ []) ≡ Some (pos 12) ∷ None ∷ None ∷ []
+unfolding operand_number number_of
+operands_are = refl
