@@ -1,15 +1,15 @@
 -- Lines that a quoted newline joins.
 use Rattle.std.proofs.Common.{◌≡◌, ◌<◌, ℕ, zero, suc, ◌+◌, List, [], ◌∷◌, ◌++◌, length, take, drop, Bool, true, false, not, ◌&&◌, ◌==◌, nat_lt, refl, sym, ap, ◌∙◌, arith, drop-drop, append_assoc, length-drop}
-use Rattle.std.specs.Prelude.{Option, Some, None, filter, if◌then◌else◌}
-use Rattle.std.specs.List.{prefix_len}
+use Rattle.std.specs.Prelude.{Option, Some, None, if◌then◌else◌, get_or}
 use Rattle.std.proofs.lemmas.Bool.Decides.{nat_tests}
 use Rattle.shell_world.specs.Texts.{Text, nth, with_nth}
-use Rattle.shell_world.specs.Outside.{Desc, Outside, desc_at, unread, consumed_at, read_on, change_desc}
+use Rattle.shell_world.specs.Outside.{Desc, Outside, desc_at, unread, consumed_at, read_on}
 use Rattle.shell_world.specs.declared.description.Description.TheVariants.{Reading, Writing, Appending, Given, Buffer, Output, Errors}
 use Rattle.shell_world.specs.declared.lines.Line.{Line}
-use Rattle.shell_world.specs.Lines.{is_inner, line_len, is_ended, without_nul, newlines, line_of, line_taken, line_read_at}
+use Rattle.shell_world.specs.Lines.{line_len, is_ended, without_nul, newlines, line_of, line_taken, line_read_at}
 use Rattle.shell_world.proofs.LineCuts.{ended_is}
-use Rattle.sh_meaning.specs.builtins.Reading.{quotes_next, joined_len, line_read, bytes_taken}
+use Rattle.sh_meaning.specs.builtins.Reading.{quotes_next, joined_len, line_read, bytes_taken, assign_next, assign_all}
+use Rattle.sh_meaning.specs.Variables.{Variables}
 use Rattle.sh_builtins.specs.Lines.{with_text, quotes_behind, input_at, taken_at}
 
 pub rest_behind : {X : Type 0} (n : ℕ) (xs : List X) → drop 1 (drop n xs) ≡ drop (n + 1) xs
@@ -267,3 +267,51 @@ last_part i o is = last_line (input_at i o) (sym (quoted_is (input_at i o)) ∙ 
 
 pub last_input : (i : Option ℕ) (o : Outside) → ((line_of (input_at i o)).ended && quotes_behind false (line_of (input_at i o)).text) ≡ false → taken_at false i o ≡ line_read_at i o
 last_input i o is = ap (λ n. behind n i o) (last_taken (input_at i o) (sym (quoted_is (input_at i o)) ∙ is))
+
+-- ---- what `take_part` makes
+
+both : (a b : Bool) → a ≡ true → b ≡ true → (a && b) ≡ true
+both a b is more = rw is more
+
+pub not_first : (a b : Bool) → a ≡ false → (a && b) ≡ false
+not_first a b is = rw is refl
+
+pub not_second : (a b : Bool) → b ≡ false → (a && b) ≡ false
+not_second true b is = is
+not_second false b is = refl
+
+pub part_joined : (i : Option ℕ) (o o' : Outside) (old mid new : Text) (line : Line) → line ≡ line_of (input_at i o) → o' ≡ line_read_at i o → mid ≡ old ++ line.text → new ≡ mid ++ 10 ∷ [] → line.ended ≡ true → quotes_behind false line.text ≡ true
+    → (with_text new (line_read false (input_at i o')) ≡ with_text old (line_read false (input_at i o))) × (taken_at false i o' ≡ taken_at false i o) × (length (input_at i o') < length (input_at i o))
+part_joined i o o' old mid new line line_is after mid_is new_is ended quoted =
+    let was : (line.ended && quotes_behind false line.text) ≡ true = both _ _ ended quoted in
+    let is : ((line_of (input_at i o)).ended && quotes_behind false (line_of (input_at i o)).text) ≡ true = sym (ap (λ l. l.ended && quotes_behind false l.text) line_is) ∙ was in
+    let put : new ≡ (old ++ (line_of (input_at i o)).text) ++ 10 ∷ [] = new_is ∙ ap (λ t. t ++ 10 ∷ []) (mid_is ∙ ap (λ l. old ++ l.text) line_is) in (
+      (ap (λ t. with_text t (line_read false (input_at i o'))) put ∙ ap (λ p. with_text ((old ++ (line_of (input_at i o)).text) ++ 10 ∷ []) (line_read false (input_at i p))) after ∙ joined_part i o old is),
+      (ap (taken_at false i) after ∙ joined_input i o is),
+      (rw after (joined_shorter i o is)),
+    )
+
+pub part_last : (i : Option ℕ) (o o' : Outside) (old new : Text) (line : Line) → line ≡ line_of (input_at i o) → o' ≡ line_read_at i o → new ≡ old ++ line.text → (line.ended && quotes_behind false line.text) ≡ false
+    → (with_text old (line_read false (input_at i o)) ≡ record { text = new; ended = line.ended }) × (o' ≡ taken_at false i o)
+part_last i o o' old new line line_is after new_is was =
+    let is : ((line_of (input_at i o)).ended && quotes_behind false (line_of (input_at i o)).text) ≡ false = sym (ap (λ l. l.ended && quotes_behind false l.text) line_is) ∙ was in
+    ((ap (with_text old) (last_part i o is ∙ sym line_is) ∙ ap (λ t. let made : Line = record { text = t; ended = line.ended } in made) (sym new_is)), (after ∙ sym (last_input i o is)))
+
+-- ---- names that get their texts
+
+next_of : (names : List Text) (at : ℕ) (x : Text) → at < length names → x ≡ get_or names at x → drop at names ≡ x ∷ drop (suc at) names
+next_of [] at x lt is = absurd (omega arith)
+next_of (n ∷ ns) zero x lt is = ap (λ y. y ∷ ns) (sym is)
+next_of (n ∷ ns) (suc k) x lt is = next_of ns k x (omega arith) is
+
+next_step : (names texts : List Text) (at : ℕ) (x : Text) (vars : Variables) → at < length names → x ≡ get_or names at x → assign_all (drop (at + 1) names) (drop (at + 1) texts) (assign_next x (drop at texts) vars) ≡ assign_all (drop at names) (drop at texts) vars
+next_step names texts at x vars lt is =
+    let e : at + 1 ≡ suc at = omega arith in
+    ap (λ n. assign_all (drop n names) (drop (at + 1) texts) (assign_next x (drop at texts) vars)) e
+    ∙ ap (λ ts. assign_all (drop (suc at) names) ts (assign_next x (drop at texts) vars)) (sym (rest_behind at texts))
+    ∙ ap (λ ns. assign_all ns (drop at texts) vars) (sym (next_of names at x lt is))
+
+pub kept : (names texts : List Text) (at : ℕ) (x y : Text) (ys : List Text) (vars vars' target : Variables) → at < length names → x ≡ get_or names at x → y ≡ x → ys ≡ drop at texts → vars' ≡ assign_next y ys vars → assign_all (drop at names) (drop at texts) vars ≡ target → assign_all (drop (at + 1) names) (drop (at + 1) texts) vars' ≡ target
+kept names texts at x y ys vars vars' target lt is y_is ys_is made so_far =
+    ap (assign_all (drop (at + 1) names) (drop (at + 1) texts)) (made ∙ ap (λ z. assign_next z ys vars) y_is ∙ ap (λ zs. assign_next x zs vars) ys_is)
+    ∙ next_step names texts at x vars lt is ∙ so_far

@@ -1,5 +1,5 @@
 -- Words and parts of the code's tree as lists.
-use Rattle.std.proofs.Common.{◌≡◌, ℕ, zero, suc, List, [], ◌∷◌, length, drop, map, Bool, true, false, ◌&&◌, nat_le, refl, sym, ap, ◌∙◌}
+use Rattle.std.proofs.Common.{◌≡◌, ℕ, zero, suc, List, [], ◌∷◌, length, drop, map, Bool, ◌&&◌, nat_le, refl, ap, ◌∙◌}
 use Rattle.std.specs.List.{list_all}
 use Rattle.sh_grammar.specs.Shape as shape
 use Rattle.sh_syntax.specs.declared.tree.Part.{Part}

@@ -1,5 +1,5 @@
 -- A line that goes on behind quoted newlines, part by part.
-use Rattle.std.specs.Prelude.{◌≡◌, ◌<◌, ℕ, Bool, false, ◌++◌, List, [], ◌∷◌, length, Option}
+use Rattle.std.specs.Prelude.{◌≡◌, ◌<◌, ℕ, Bool, false, ◌++◌, [], ◌∷◌, length, Option}
 use Rattle.shell_world.specs.Texts.{Text}
 use Rattle.shell_world.specs.Outside.{Outside, desc_at, unread, consumed_at}
 use Rattle.shell_world.specs.declared.lines.Line.{Line}

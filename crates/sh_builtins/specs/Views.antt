@@ -1,5 +1,5 @@
 -- The code's state as the meaning's, and what an answer of the code says of the meaning.
-use Rattle.std.specs.Prelude.{◌≡◌, ℕ, Bool, true, false, List, map, Option, Some, None, Result, Ok, Err}
+use Rattle.std.specs.Prelude.{◌≡◌, ℕ, Bool, true, false, map, Option, Some, None, Result, Ok, Err}
 use Rattle.shell_world.specs.Texts.{Text, Map}
 use Rattle.shell_world.specs.Runs.{St, Res, Ends, Unspecified}
 use Rattle.shell_world.specs.Running.{Running}

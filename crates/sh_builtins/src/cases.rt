@@ -310,7 +310,15 @@ pub fn shown(
     let fields = fields_of(alloc, words)?;
     let mut shown = Text::new(alloc);
     if let [name, args @ ..] = fields.as_slice() {
-        match run_builtin(alloc, place, &form, name.bytes(), args, &mut env, &mut outside) {
+        match run_builtin(
+            alloc,
+            place,
+            &form,
+            name.bytes(),
+            args,
+            &mut env,
+            &mut outside,
+        ) {
             Ok(flow) => show_end(flow, &env, outside, show, &mut shown)?,
             Err(Stop::Unspecified) => shown.append(b"unspecified")?,
             Err(Stop::Memory) => return Err(Memory {}),

@@ -24,11 +24,7 @@ fn push_copies(alloc: Global, texts: &[Text], to: &mut List<Text>) -> Result<(),
 fn first_of(texts: &[Text]) -> &[Text]
     ensures { result.now ≡ take 1 texts.now }
 {
-    if texts.is_empty() {
-        &[]
-    } else {
-        &texts[..1]
-    }
+    if texts.is_empty() { &[] } else { &texts[..1] }
 }
 
 /// `$0` of these parameters, and other positional parameters.
@@ -71,13 +67,7 @@ fn shift_count(args: &[Text], count: u64) -> Option<u64>
     ensures bound { IfSome result (λ n. n ≤ count) }
 {
     match args {
-        [] => {
-            if count >= 1 {
-                Some(1)
-            } else {
-                None
-            }
-        }
+        [] => { if count >= 1 { Some(1) } else { None } }
         [text, more @ ..] => {
             if more.is_empty() {
                 number(count, text.bytes())

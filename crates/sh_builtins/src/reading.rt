@@ -51,11 +51,7 @@ fn quotes_behind(text: &[u8]) -> bool
 }
 
 /// Puts the next line behind the text, with its newline where that is quoted.
-fn take_part(
-    text: &mut Text,
-    outside: &mut Outside,
-    from: Option<Desc>,
-) -> Result<Part, Memory>
+fn take_part(text: &mut Text, outside: &mut Outside, from: Option<Desc>) -> Result<Part, Memory>
     ensures takes { IfOk result (λ part. Takes (index_of from) text.old text.new outside.old.outside outside.new.outside part) }
     ensures rest { OnOk result (outside.new ≡ record outside.old { outside = outside.new.outside }) }
     ensures table { outside.new.rows ≡ outside.old.rows }
@@ -131,7 +127,7 @@ fn assign_next(
 }
 
 /// Gives each name the text at its place.
-#[tactic(auto, using(crate::proofs::Joins::rest_behind))]
+
 fn assign_all(
     alloc: Global,
     names: &[Text],
@@ -166,7 +162,13 @@ fn texts_read(
     requires { 0 < count }
     ensures { IfOk result (λ texts. texts ≡ reading.texts_read (is_raw backslashes) count line.now vars.now) }
 {
-    read_fields(alloc, line, value_at(vars, b"IFS"), is_raw(backslashes), count)
+    read_fields(
+        alloc,
+        line,
+        value_at(vars, b"IFS"),
+        is_raw(backslashes),
+        count,
+    )
 }
 
 /// Reads a line, and gives each name its field.
@@ -182,7 +184,13 @@ fn read_line_to(
     ensures leaves { Leaves (reading.reads (is_raw backslashes) names.now (state_of env.old outside.old)) env.new outside.new result }
 {
     let line = take_line(alloc, backslashes, outside, env.fds.get(0))?;
-    let texts = texts_read(alloc, backslashes, names.len(), line.text.bytes(), &env.vars)?;
+    let texts = texts_read(
+        alloc,
+        backslashes,
+        names.len(),
+        line.text.bytes(),
+        &env.vars,
+    )?;
     assign_all(alloc, names, texts.as_slice(), &mut env.vars)?;
     env.status = if line.ended { 0 } else { 1 };
     Ok(Flow::Normal)
@@ -204,9 +212,7 @@ fn can_read(behind: usize, form: &Form, names: &[Text]) -> bool
     ensures is { result ≡ reading.can_read behind (form_of form.now) names.now }
     ensures some { IsTrue result → 0 < length names.now }
 {
-    !names.is_empty()
-        && are_read_names(form, names)
-        && are_written(form.words, behind, names.len())
+    !names.is_empty() && are_read_names(form, names) && are_written(form.words, behind, names.len())
 }
 
 /// `read name ..`, `read -r name ..`: a line of standard input, of which each name gets a field. The status is 1 where no

@@ -62,7 +62,10 @@ fn jumps_inside(rt: HostRuntime) -> Result<(), Fail> {
         (&[P("return")], "return 7"),
         (&[P("return"), Value("0255")], "return 255"),
     ];
-    assert_eq!(rt; first_wrong(rt.alloc(), INSIDE, Show::End, &rows)?, rows.len());
+    assert_eq!(rt;
+        first_wrong(rt.alloc(), INSIDE, Show::End, &rows)?,
+        rows.len()
+    );
     Ok(())
 }
 
@@ -100,7 +103,10 @@ fn parameters(rt: HostRuntime) -> Result<(), Fail> {
         (&[P("shift"), P("-1")], NONE),
         (&[P("shift"), P("1"), P("1")], NONE),
     ];
-    assert_eq!(rt; first_wrong(rt.alloc(), TOP, Show::Params, &rows)?, rows.len());
+    assert_eq!(rt;
+        first_wrong(rt.alloc(), TOP, Show::Params, &rows)?,
+        rows.len()
+    );
     Ok(())
 }
 
@@ -113,7 +119,10 @@ fn exports(rt: HostRuntime) -> Result<(), Fail> {
         (&[P("export"), P("y=2"), P("x=3")], "x=3!,y=2!,"),
         (&[P("export"), P("y=a=b")], "x=1!,y=a=b!,"),
         (&[P("export"), P("y=")], "x=1!,y=!,"),
-        (&[P("export"), PlainQuotedValue("y=", "a b")], "x=1!,y=a b!,"),
+        (
+            &[P("export"), PlainQuotedValue("y=", "a b")],
+            "x=1!,y=a b!,",
+        ),
         (&[P("export"), PlainValue("y=", "a")], NONE),
         (&[P("export"), PlainQuotedValue("y", "=a")], NONE),
         (&[P("export"), QuotedValue("y")], NONE),
@@ -125,7 +134,10 @@ fn exports(rt: HostRuntime) -> Result<(), Fail> {
         (&[P("export"), P("-p")], NONE),
         (&[P("export"), P("1y=2")], NONE),
     ];
-    assert_eq!(rt; first_wrong(rt.alloc(), TOP, Show::Variables, &rows)?, rows.len());
+    assert_eq!(rt;
+        first_wrong(rt.alloc(), TOP, Show::Variables, &rows)?,
+        rows.len()
+    );
     Ok(())
 }
 
@@ -142,7 +154,10 @@ fn unsets(rt: HostRuntime) -> Result<(), Fail> {
         (&[P("unset"), Value("x")], NONE),
         (&[P("unset"), P("1x")], NONE),
     ];
-    assert_eq!(rt; first_wrong(rt.alloc(), TOP, Show::Variables, &rows)?, rows.len());
+    assert_eq!(rt;
+        first_wrong(rt.alloc(), TOP, Show::Variables, &rows)?,
+        rows.len()
+    );
     Ok(())
 }
 
@@ -158,7 +173,10 @@ fn outputs(rt: HostRuntime) -> Result<(), Fail> {
         (&[P("printf"), P("--"), P("a")], "a"),
         (&[P("printf"), P("%s,"), P("a"), P("b")], "a,b,"),
         (&[P("printf"), P("%5.1d|%%"), P("-3")], "   -3|%"),
-        (&[P("printf"), P("%b%s"), Quoted("a\\tb\\cd"), P("e")], "a\tb"),
+        (
+            &[P("printf"), P("%b%s"), Quoted("a\\tb\\cd"), P("e")],
+            "a\tb",
+        ),
         (&[P("printf"), P("%d"), P("0x1f")], "31"),
         (&[P("printf"), P("%d")], "0"),
         (&[P("printf")], NONE),
@@ -170,7 +188,10 @@ fn outputs(rt: HostRuntime) -> Result<(), Fail> {
         (&[P("printf"), P("%q"), P("x")], NONE),
         (&[P("printf"), P("%b"), Quoted("\\q")], NONE),
     ];
-    assert_eq!(rt; first_wrong(rt.alloc(), TOP, Show::Output, &rows)?, rows.len());
+    assert_eq!(rt;
+        first_wrong(rt.alloc(), TOP, Show::Output, &rows)?,
+        rows.len()
+    );
     Ok(())
 }
 
@@ -187,7 +208,10 @@ fn what_is_closed_is_not_written(rt: HostRuntime) -> Result<(), Fail> {
         (&[P("printf"), P("a")], "next 1"),
         (&[P("printf"), P("")], "next 0"),
     ];
-    assert_eq!(rt; first_wrong(rt.alloc(), closed, Show::End, &rows)?, rows.len());
+    assert_eq!(rt;
+        first_wrong(rt.alloc(), closed, Show::End, &rows)?,
+        rows.len()
+    );
     Ok(())
 }
 
@@ -197,7 +221,10 @@ fn fields_of_a_line(rt: HostRuntime) -> Result<(), Fail> {
         (&[P("read"), P("y")], "x=1!,y=a b  c,"),
         (&[P("read"), P("y"), P("z")], "x=1!,y=a,z=b  c,"),
         (&[P("read"), P("-r"), P("y"), P("z")], "x=1!,y=a,z=b\\,"),
-        (&[P("read"), P("w"), P("x"), P("y"), P("z")], "w=a,x=b!,y=c,z=,"),
+        (
+            &[P("read"), P("w"), P("x"), P("y"), P("z")],
+            "w=a,x=b!,y=c,z=,",
+        ),
         (&[P("read"), Quoted("y")], "x=1!,y=a b  c,"),
         (&[P("read"), P("y"), P("y")], "x=1!,y=b  c,"),
         (&[P("read")], NONE),
@@ -210,7 +237,10 @@ fn fields_of_a_line(rt: HostRuntime) -> Result<(), Fail> {
         (&[P("read"), P("f")], "f=a b  c,x=1!,"),
     ];
     let lines = given("  a b\\\n  c \nd\n");
-    assert_eq!(rt; first_wrong(rt.alloc(), lines, Show::Variables, &rows)?, rows.len());
+    assert_eq!(rt;
+        first_wrong(rt.alloc(), lines, Show::Variables, &rows)?,
+        rows.len()
+    );
     Ok(())
 }
 
@@ -219,13 +249,25 @@ fn ends_of_a_line(rt: HostRuntime) -> Result<(), Fail> {
     let read: [Row<'_>; 1] = [(&[P("read"), P("y")], "next 0")];
     assert_eq!(rt; first_wrong(rt.alloc(), given("a\n"), Show::End, &read)?, 1);
     let unended: [Row<'_>; 1] = [(&[P("read"), P("y")], "next 1")];
-    assert_eq!(rt; first_wrong(rt.alloc(), given("a"), Show::End, &unended)?, 1);
+    assert_eq!(rt;
+        first_wrong(rt.alloc(), given("a"), Show::End, &unended)?,
+        1
+    );
     assert_eq!(rt; first_wrong(rt.alloc(), given(""), Show::End, &unended)?, 1);
-    assert_eq!(rt; first_wrong(rt.alloc(), given("a\\\n"), Show::End, &unended)?, 1);
+    assert_eq!(rt;
+        first_wrong(rt.alloc(), given("a\\\n"), Show::End, &unended)?,
+        1
+    );
     let kept: [Row<'_>; 1] = [(&[P("read"), P("y")], "x=1!,y=a ,")];
-    assert_eq!(rt; first_wrong(rt.alloc(), given("a\\ \n"), Show::Variables, &kept)?, 1);
+    assert_eq!(rt;
+        first_wrong(rt.alloc(), given("a\\ \n"), Show::Variables, &kept)?,
+        1
+    );
     let dropped: [Row<'_>; 1] = [(&[P("read"), P("y")], "x=1!,y=ab,")];
-    assert_eq!(rt; first_wrong(rt.alloc(), given("a\\b\\"), Show::Variables, &dropped)?, 1);
+    assert_eq!(rt;
+        first_wrong(rt.alloc(), given("a\\b\\"), Show::Variables, &dropped)?,
+        1
+    );
     Ok(())
 }
 
@@ -262,11 +304,17 @@ fn tests_of_numbers_and_files(rt: HostRuntime) -> Result<(), Fail> {
     let rows: [Row<'_>; 21] = [
         (&[P("test"), P("010"), P("-eq"), P("+10")], "next 0"),
         (&[P("test"), P("1"), P("-ne"), P("1")], "next 1"),
-        (&[P("test"), P("-9223372036854775808"), P("-lt"), P("-1")], "next 0"),
+        (
+            &[P("test"), P("-9223372036854775808"), P("-lt"), P("-1")],
+            "next 0",
+        ),
         (&[P("test"), P("2"), P("-le"), P("1")], "next 1"),
         (&[P("test"), P("2"), P("-gt"), P("1")], "next 0"),
         (&[P("test"), P("2"), P("-ge"), P("2")], "next 0"),
-        (&[P("test"), P("9223372036854775808"), P("-gt"), P("1")], NONE),
+        (
+            &[P("test"), P("9223372036854775808"), P("-gt"), P("1")],
+            NONE,
+        ),
         (&[P("test"), Quoted(""), P("-eq"), P("0")], NONE),
         (&[P("test"), P("0x1"), P("-eq"), P("1")], NONE),
         (&[P("test"), Quoted(" 1"), P("-eq"), P("1")], NONE),
@@ -300,8 +348,13 @@ fn names(rt: HostRuntime) -> Result<(), Fail> {
         b"unset",
     ];
     assert_eq!(rt; special.iter().filter(|name| is_special(**name)).count(), 9);
-    let plain: [&[u8]; 7] = [b"true", b"false", b"printf", b"read", b"test", b"[", b"echo"];
-    assert_eq!(rt; plain.iter().filter(|name| is_sh_builtin(**name)).count(), 7);
+    let plain: [&[u8]; 7] = [
+        b"true", b"false", b"printf", b"read", b"test", b"[", b"echo",
+    ];
+    assert_eq!(rt;
+        plain.iter().filter(|name| is_sh_builtin(**name)).count(),
+        7
+    );
     assert_eq!(rt; plain.iter().filter(|name| is_special(**name)).count(), 0);
     assert_eq!(rt; is_sh_builtin(b"mapfile"), false);
     assert_eq!(rt; is_sh_builtin(b"cd"), false);

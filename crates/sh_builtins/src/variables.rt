@@ -15,10 +15,10 @@ ghost use Rattle.sh_meaning.specs.builtins.Variables as builtins;
 ghost use Rattle.sh_builtins.specs.Views.{Changes, core_of, form_of};
 
 use crate::environment::Environment;
-use crate::operands::{are_operands, equals_at};
 use crate::flow::{Flow, Stop};
 use crate::form::{Form, are_written};
 use crate::names::is_word;
+use crate::operands::{are_operands, equals_at};
 use sh_meaning::Variable;
 use shell_world::TextMap;
 use span_text::{List, Memory, Text, is_name};
@@ -90,7 +90,10 @@ fn push_exported(
 }
 
 /// What an external command sees: the variables that are exported and have a text, in the order of their names (2.9.1.4).
-pub fn exported_environment(alloc: Global, vars: &TextMap<Variable>) -> Result<List<(Text, Text)>, Memory>
+pub fn exported_environment(
+    alloc: Global,
+    vars: &TextMap<Variable>,
+) -> Result<List<(Text, Text)>, Memory>
     ensures { IfOk result (λ l. l ≡ variables.environment vars.now) }
 {
     let mut all = List::new(alloc);
@@ -127,11 +130,7 @@ pub fn start_variables(alloc: Global, env: &[(Text, Text)]) -> Result<TextMap<Va
 // ---- `export`
 
 /// A copy of a variable's text, where it has one.
-fn copy_value(
-    alloc: Global,
-    vars: &TextMap<Variable>,
-    name: &[u8],
-) -> Result<Option<Text>, Memory>
+fn copy_value(alloc: Global, vars: &TextMap<Variable>, name: &[u8]) -> Result<Option<Text>, Memory>
     ensures { IfOk result (λ value. value ≡ (variables.variable_or_new (lookup name.now vars.now)).value) }
 {
     match vars.get(name) {
@@ -199,14 +198,17 @@ fn have_names(args: &[Text]) -> bool
 fn can_export(form: &Form, args: &[Text]) -> bool
     ensures { result ≡ builtins.can_export (form_of form.now) args.now }
 {
-    !args.is_empty()
-        && have_names(args)
-        && are_operands(form.words, args.len())
+    !args.is_empty() && have_names(args) && are_operands(form.words, args.len())
 }
 
 /// `export name`, `export name=text`: the variable is exported from then on. Without operands, with another name, and in
 /// another form it is unspecified.
-pub fn export(alloc: Global, form: &Form, args: &[Text], env: &mut Environment) -> Result<Flow, Stop>
+pub fn export(
+    alloc: Global,
+    form: &Form,
+    args: &[Text],
+    env: &mut Environment,
+) -> Result<Flow, Stop>
     ensures { Changes (builtins.export_run (form_of form.now) args.now (core_of env.old)) env.new result }
 {
     if !can_export(form, args) {
@@ -256,9 +258,7 @@ fn is_unset_name(form: &Form, name: &[u8]) -> bool
 fn are_unset_names(form: &Form, names: &[Text]) -> bool
     ensures { result ≡ list_all (builtins.is_unset_name (form_of form.now)) names.now }
 {
-    names
-        .iter()
-        .all(|name| is_unset_name(form, name.bytes()))
+    names.iter().all(|name| is_unset_name(form, name.bytes()))
 }
 
 /// The names stand behind so many words.

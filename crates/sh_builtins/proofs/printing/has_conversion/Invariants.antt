@@ -1,4 +1,4 @@
-use Rattle.std.proofs.Common.{◌≡◌, ℕ, length}
+use Rattle.std.proofs.Common.{◌≡◌, length}
 use Rattle.sh_meaning.specs.builtins.Printing.{has_conversion}
 use Rattle.sh_builtins.proofs.printing.has_conversion.Given as goal
 

@@ -1,4 +1,4 @@
-use Rattle.std.proofs.Common.{◌≡◌, ℕ, length, false}
+use Rattle.std.proofs.Common.{◌≡◌, length, false}
 use Rattle.shell_world.specs.Running.{index_of}
 use Rattle.sh_meaning.specs.builtins.Reading.{line_read}
 use Rattle.sh_builtins.specs.Lines.{with_text, input_at, taken_at}
