@@ -9,7 +9,7 @@ use sh_syntax::{Part, PartKind, Word};
 use span_text::Text;
 
 /// What of a simple command's text decides what a built-in does.
-#[derive(Debug)]
+#[derive(Debug, Drop)]
 pub struct Form<'f> {
     /// The functions that the script defines anywhere.
     pub functions: &'f [Text],
