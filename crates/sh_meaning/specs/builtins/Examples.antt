@@ -13,11 +13,11 @@ use Rattle.sh_grammar.specs.Shape.{Parts, no_part, part, plain, exact, double, p
 use Rattle.sh_meaning.specs.Variables.{Variables}
 use Rattle.sh_meaning.specs.builtins.Core.{Core}
 use Rattle.sh_meaning.specs.builtins.Ends.{CoreEnding}
-use Rattle.sh_meaning.specs.builtins.Export.{is_export_operand, is_export_name, is_fit_operand}
+use Rattle.sh_meaning.specs.builtins.Export.{is_export_operand, is_export_name, has_fit_value, is_fit_operand, are_operands}
 use Rattle.sh_meaning.specs.builtins.Forms.{Form}
 use Rattle.sh_meaning.specs.builtins.Functions.{functions_of}
 use Rattle.sh_meaning.specs.builtins.Jumps.{break_run, continue_run, return_run, exit_run}
-use Rattle.sh_meaning.specs.builtins.Literals.{is_literal}
+use Rattle.sh_meaning.specs.builtins.Literals.{is_literal, are_written}
 use Rattle.sh_meaning.specs.builtins.Names.{is_special, is_sh_builtin, special_builtin, plain_builtin, builtin_of}
 use Rattle.sh_meaning.specs.builtins.Parameters.{set_run, shift_run}
 use Rattle.sh_meaning.specs.builtins.Places.{Place}
@@ -81,19 +81,19 @@ breaks_are : map (λ (r : Place × Form × List Text). flow_of (break_run r.0 r.
     (inside, written (w (codes "break") ∷ expands ∷ []), codes "1" ∷ []) ∷
     (outside, says (codes "break" ∷ []), []) ∷ [])
     ≡ Some (Breaks 0, 0) ∷ Some (Breaks 1, 0) ∷ None ∷ None ∷ None ∷ None ∷ []
-unfolding number_of is_literal
+unfolding number_of is_literal are_written
 breaks_are = refl
 
 continues_are : map (λ place. flow_of (continue_run place (says (codes "continue" ∷ [])) [] core)) (inside ∷ outside ∷ []) ≡ Some (Continues 0, 0) ∷ None ∷ []
-unfolding number_of is_literal
+unfolding number_of is_literal are_written
 continues_are = refl
 
 returns_are : map (λ (r : Place × List Text). flow_of (return_run r.0 r.1 core)) ((inside, []) ∷ (inside, codes "255" ∷ []) ∷ (inside, codes "256" ∷ []) ∷ (outside, []) ∷ []) ≡ Some (Returns, 7) ∷ Some (Returns, 255) ∷ None ∷ None ∷ []
-unfolding number_of is_literal
+unfolding number_of is_literal are_written
 returns_are = refl
 
 exits_are : map (λ args. flow_of (exit_run args core)) ([] ∷ (codes "007" ∷ []) ∷ (codes "-1" ∷ []) ∷ (codes "1" ∷ codes "2" ∷ []) ∷ []) ≡ Some (Exits, 7) ∷ Some (Exits, 7) ∷ None ∷ None ∷ []
-unfolding number_of is_literal
+unfolding number_of is_literal are_written
 exits_are = refl
 
 -- ---- parameters
@@ -124,13 +124,13 @@ exports_are : map (λ (r : Parts × Text). vars_of (export_run (written (w (code
     (part (exact (codes "a=b")) no_part, codes "a=b") ∷
     (w (codes "1a=b"), codes "1a=b") ∷ [])
     ≡ Some ((codes "a", record { value = None; exported = true }) ∷ []) ∷ Some ((codes "a", record { value = Some (codes "b"); exported = true }) ∷ []) ∷ None ∷ None ∷ None ∷ None ∷ None ∷ []
-unfolding number_of is_literal is_export_operand is_export_name is_fit_operand begins_name continues_name
+unfolding number_of is_literal are_written is_export_operand is_export_name has_fit_value is_fit_operand are_operands begins_name continues_name
 exports_are = refl
 
 unsets_are : map (λ names. vars_of (unset_run (says (codes "unset" ∷ names)) names (record core { vars = (codes "a", record { value = Some (codes "b"); exported = true }) ∷ [] })))
     ((codes "a" ∷ []) ∷ (codes "-v" ∷ codes "a" ∷ []) ∷ (codes "f" ∷ []) ∷ [] ∷ (codes "-f" ∷ codes "a" ∷ []) ∷ [])
     ≡ Some ((codes "a", record { value = None; exported = false }) ∷ []) ∷ Some ((codes "a", record { value = None; exported = false }) ∷ []) ∷ None ∷ None ∷ None ∷ []
-unfolding is_literal begins_name continues_name
+unfolding is_literal are_written begins_name continues_name
 unsets_are = refl
 
 -- ---- output

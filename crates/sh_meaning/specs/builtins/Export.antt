@@ -21,19 +21,22 @@ has_equals text = list_any (λ b. b == 61) text
 abbrev pub begins_assignment : Text → Bool
 begins_assignment text = has_equals text && is_name (name_of text)
 
-abbrev pub begins_as_assignment : List Part → Bool
-begins_as_assignment [] = false
-begins_as_assignment (plain text ∷ ps) = begins_assignment text
-begins_as_assignment (exact text ∷ ps) = false
-begins_as_assignment (double inner ∷ ps) = false
-begins_as_assignment (tilde ∷ ps) = false
-begins_as_assignment (param p op ∷ ps) = false
-begins_as_assignment (subst script ∷ ps) = false
-begins_as_assignment (arith expr operands ∷ ps) = false
+abbrev pub begins_part : Part → Bool
+begins_part (plain text) = begins_assignment text
+begins_part (exact text) = false
+begins_part (double ps) = false
+begins_part tilde = false
+begins_part (param p op) = false
+begins_part (subst script) = false
+begins_part (arith expr operands) = false
+
+abbrev pub begins_parts : List Part → Bool
+begins_parts [] = false
+begins_parts (p ∷ ps) = begins_part p
 
 -- `name=word`, the name and the `=` unquoted
 unfoldable pub is_export_operand : Parts → Bool
-is_export_operand ps = begins_as_assignment (list_of_parts ps)
+is_export_operand ps = begins_parts (list_of_parts ps)
 
 -- a `~` stands right behind a `=` or a `:`; the truth value tells whether one of these stands just before
 abbrev pub has_tilde : Bool → Text → Bool
@@ -74,10 +77,13 @@ is_without_equals (arith expr operands) = false
 unfoldable pub is_export_name : Parts → Bool
 is_export_name ps = is_literal ps && list_all is_without_equals (list_of_parts ps)
 
+unfoldable pub has_fit_value : Parts → Bool
+has_fit_value ps = list_all fits_value (list_of_parts ps)
+
 -- The forms of an operand. Another is unspecified, and so is the command when such an operand of a literal `export` would be expanded.
 unfoldable pub is_fit_operand : Parts → Bool
-is_fit_operand ps = if is_export_operand ps then list_all fits_value (list_of_parts ps) else is_export_name ps
+is_fit_operand ps = if is_export_operand ps then has_fit_value ps else is_export_name ps
 
 -- behind the first word each is a fit operand, and there are n at least
-abbrev pub are_operands : ℕ → Words → Bool
+unfoldable pub are_operands : ℕ → Words → Bool
 are_operands n ws = list_all is_fit_operand (drop 1 (list_of_words ws)) && nat_le n (length (drop 1 (list_of_words ws)))

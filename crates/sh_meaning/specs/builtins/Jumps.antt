@@ -1,5 +1,5 @@
 -- `break`, `continue`, `return` and `exit` (POSIX XCU 2.14).
-use Rattle.std.specs.Prelude.{ℕ, zero, suc, nat_lt, if◌then◌else◌, List, [], ◌∷◌, Option, Some, None}
+use Rattle.std.specs.Prelude.{ℕ, zero, suc, ◌&&◌, ◌==◌, nat_lt, if◌then◌else◌, length, List, [], ◌∷◌, Option, Some, None}
 use Rattle.span_text.specs.Constant.{number_of}
 use Rattle.shell_world.specs.Texts.{Text}
 use Rattle.shell_runs.specs.Flow.{Flow, Breaks, Continues, Returns, Exits}
@@ -17,9 +17,8 @@ one_less (Some (suc n)) = Some n
 
 -- the decimal number n from 1 to the number of loops, or 1 where none is written: how many loops around the innermost one it says
 abbrev pub loops_around : Place → Form → List Text → Option ℕ
-loops_around place form [] = if are_written 1 0 form.words then one_less (Some (if nat_lt 0 place.loops then 1 else 0)) else None
-loops_around place form (text ∷ []) = if are_written 1 1 form.words then one_less (number_of place.loops 10 text) else None
-loops_around place form (text ∷ other ∷ more) = None
+loops_around place form [] = if are_written 1 0 form.words && nat_lt 0 place.loops then Some 0 else None
+loops_around place form (text ∷ more) = if length more == 0 && are_written 1 1 form.words then one_less (number_of place.loops 10 text) else None
 
 abbrev pub jumps : (ℕ → Flow) → Option ℕ → Core → CoreEnding
 jumps flow None o = None
@@ -36,8 +35,7 @@ continue_run place form args o = jumps Continues (loops_around place form args) 
 -- the status that a decimal number from 0 to 255 says, or the last one where none is there
 abbrev pub status_left : List Text → ℕ → Option ℕ
 status_left [] last = Some last
-status_left (text ∷ []) last = number_of 255 10 text
-status_left (text ∷ other ∷ more) last = None
+status_left (text ∷ more) last = if length more == 0 then number_of 255 10 text else None
 
 abbrev pub leaves_with : Flow → Option ℕ → Core → CoreEnding
 leaves_with flow None o = None

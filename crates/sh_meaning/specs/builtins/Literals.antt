@@ -31,5 +31,5 @@ unfoldable pub is_literal : Parts → Bool
 is_literal ps = list_all is_literal_part (list_of_parts ps)
 
 -- behind the first k words each is literal, and there are n at least, so n arguments were written as they are
-abbrev pub are_written : (k n : ℕ) → Words → Bool
+unfoldable pub are_written : (k n : ℕ) → Words → Bool
 are_written k n ws = list_all is_literal (drop k (list_of_words ws)) && nat_le n (length (drop k (list_of_words ws)))

@@ -1,5 +1,5 @@
 -- `set` and `shift` (POSIX XCU 2.14): the positional parameters. `$0` stays.
-use Rattle.std.specs.Prelude.{ℕ, ◌+◌, ◌-◌, nat_le, if◌then◌else◌, List, [], ◌∷◌, ◌++◌, length, take, drop, Option, Some, None, codes}
+use Rattle.std.specs.Prelude.{ℕ, ◌+◌, ◌-◌, ◌==◌, nat_le, if◌then◌else◌, List, [], ◌∷◌, ◌++◌, length, take, drop, Option, Some, None, codes}
 use Rattle.span_text.specs.Constant.{number_of}
 use Rattle.span_text.specs.KnownNames.{same_text}
 use Rattle.shell_world.specs.Texts.{Text}
@@ -21,8 +21,7 @@ set_run (first ∷ words) o = if same_text (codes "--") first then ends 0 (param
 -- a decimal number that is at most `$#`, or 1 where none is there
 abbrev pub shift_count : List Text → ℕ → Option ℕ
 shift_count [] count = if nat_le 1 count then Some 1 else None
-shift_count (text ∷ []) count = number_of count 10 text
-shift_count (text ∷ other ∷ more) count = None
+shift_count (text ∷ more) count = if length more == 0 then number_of count 10 text else None
 
 abbrev pub shifts : Option ℕ → Core → CoreEnding
 shifts None o = None

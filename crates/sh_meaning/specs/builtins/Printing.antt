@@ -59,10 +59,13 @@ printf_run args s = prints_some (printf_output args) s
 
 -- ---- `echo words`
 
+abbrev pub is_dashed : Text → Bool
+is_dashed [] = false
+is_dashed (b ∷ bs) = b == 45
+
 abbrev pub begins_dash : List Text → Bool
 begins_dash [] = false
-begins_dash ([] ∷ more) = false
-begins_dash ((b ∷ bs) ∷ more) = b == 45
+begins_dash (text ∷ more) = is_dashed text
 
 abbrev pub has_backslash : Text → Bool
 has_backslash text = list_any (λ b. b == 92) text

@@ -52,11 +52,14 @@ input_taken raw fds o =
 
 -- ---- what is assigned
 
+abbrev pub assign_next : Text → List Text → Variables → Variables
+assign_next name [] vs = vs
+assign_next name (text ∷ more) vs = assign name text vs
+
 -- each name gets the text at its place
 abbrev pub assign_all : List Text → List Text → Variables → Variables
 assign_all [] texts vs = vs
-assign_all (name ∷ names) [] vs = vs
-assign_all (name ∷ names) (text ∷ texts) vs = assign_all names texts (assign name text vs)
+assign_all (name ∷ names) texts vs = assign_all names (drop 1 texts) (assign_next name texts vs)
 
 -- the fields of a line, split by IFS
 abbrev pub texts_read : (raw : Bool) → ℕ → Text → Variables → List Text

@@ -7,7 +7,7 @@ use Rattle.sh_meaning.specs.declared.builtin.Builtin.{Builtin}
 use Rattle.sh_meaning.specs.declared.builtin.Builtin.TheVariants as builtin
 use Rattle.sh_meaning.specs.Own.{Own}
 use Rattle.sh_meaning.specs.builtins.Core.{Core, core_state, in_own}
-use Rattle.sh_meaning.specs.builtins.Ends.{Ending, ends, on_core, finished}
+use Rattle.sh_meaning.specs.builtins.Ends.{CoreEnding, Ending, ends, on_core, finished}
 use Rattle.sh_meaning.specs.builtins.Forms.{Form}
 use Rattle.sh_meaning.specs.builtins.Jumps.{break_run, continue_run, return_run, exit_run}
 use Rattle.sh_meaning.specs.builtins.Names.{builtin_of}
@@ -18,18 +18,37 @@ use Rattle.sh_meaning.specs.builtins.Reading.{read_run}
 use Rattle.sh_meaning.specs.builtins.Testing.{test_run, bracket_run}
 use Rattle.sh_meaning.specs.builtins.Variables.{export_run, unset_run}
 
+-- those that see the shell environment alone
+abbrev pub core_ending : Place → Form → Builtin → List Text → Core → CoreEnding
+core_ending place form builtin.Colon args o = ends 0 o
+core_ending place form builtin.True args o = ends 0 o
+core_ending place form builtin.False args o = ends 1 o
+core_ending place form builtin.Break args o = break_run place form args o
+core_ending place form builtin.Continue args o = continue_run place form args o
+core_ending place form builtin.Return args o = return_run place args o
+core_ending place form builtin.Exit args o = exit_run args o
+core_ending place form builtin.Set args o = set_run args o
+core_ending place form builtin.Shift args o = shift_run args o
+core_ending place form builtin.Export args o = export_run form args o
+core_ending place form builtin.Unset args o = unset_run form args o
+core_ending place form builtin.Printf args o = None
+core_ending place form builtin.Read args o = None
+core_ending place form builtin.Test args o = None
+core_ending place form builtin.Bracket args o = None
+core_ending place form builtin.Echo args o = None
+
 abbrev pub ending : Place → Form → Builtin → List Text → St Core → Ending
-ending place form builtin.Colon args s = on_core s (ends 0 s.own)
-ending place form builtin.True args s = on_core s (ends 0 s.own)
-ending place form builtin.False args s = on_core s (ends 1 s.own)
-ending place form builtin.Break args s = on_core s (break_run place form args s.own)
-ending place form builtin.Continue args s = on_core s (continue_run place form args s.own)
-ending place form builtin.Return args s = on_core s (return_run place args s.own)
-ending place form builtin.Exit args s = on_core s (exit_run args s.own)
-ending place form builtin.Set args s = on_core s (set_run args s.own)
-ending place form builtin.Shift args s = on_core s (shift_run args s.own)
-ending place form builtin.Export args s = on_core s (export_run form args s.own)
-ending place form builtin.Unset args s = on_core s (unset_run form args s.own)
+ending place form builtin.Colon args s = on_core s (core_ending place form builtin.Colon args s.own)
+ending place form builtin.True args s = on_core s (core_ending place form builtin.True args s.own)
+ending place form builtin.False args s = on_core s (core_ending place form builtin.False args s.own)
+ending place form builtin.Break args s = on_core s (core_ending place form builtin.Break args s.own)
+ending place form builtin.Continue args s = on_core s (core_ending place form builtin.Continue args s.own)
+ending place form builtin.Return args s = on_core s (core_ending place form builtin.Return args s.own)
+ending place form builtin.Exit args s = on_core s (core_ending place form builtin.Exit args s.own)
+ending place form builtin.Set args s = on_core s (core_ending place form builtin.Set args s.own)
+ending place form builtin.Shift args s = on_core s (core_ending place form builtin.Shift args s.own)
+ending place form builtin.Export args s = on_core s (core_ending place form builtin.Export args s.own)
+ending place form builtin.Unset args s = on_core s (core_ending place form builtin.Unset args s.own)
 ending place form builtin.Printf args s = printf_run args s
 ending place form builtin.Read args s = read_run form args s
 ending place form builtin.Test args s = test_run args s
