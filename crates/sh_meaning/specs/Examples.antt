@@ -23,8 +23,8 @@ use Rattle.sh_meaning.specs.Lists.{has_crowded_lists, is_entangled}
 use Rattle.sh_meaning.specs.Pathnames.{field_texts}
 use Rattle.sh_meaning.specs.Simple.{found}
 use Rattle.sh_meaning.specs.Running.{run}
-use Rattle.sh_meaning.specs.builtins.Export.{is_export_operand, is_export_name, is_fit_operand}
-use Rattle.sh_meaning.specs.builtins.Literals.{is_literal}
+use Rattle.sh_meaning.specs.builtins.Export.{is_export_operand, is_export_name, is_fit_operand, has_fit_value, are_operands}
+use Rattle.sh_meaning.specs.builtins.Literals.{is_literal, are_written}
 use Rattle.sh_meaning.specs.builtins.Names.{special_builtin, plain_builtin, builtin_of}
 use Rattle.sh_meaning.specs.builtins.Run.{builtin_ending}
 
@@ -116,7 +116,7 @@ splitting =
     shows (echo (part tilde no_part) ∷ []) ∷ []
 
 words_are : splitting ≡ Some (codes "a\nb\n", 0) ∷ Some (codes "a b\nc\n", 0) ∷ Some (codes "ab\n", 0) ∷ Some (codes "a\n", 0) ∷ Some (codes "a b c\n", 0) ∷ None ∷ None ∷ []
-unfolding body_len is_of behind fields bytes_of matches piece_at piece_len piece_doubt pieces_of doubt_of number_of has_crowded_lists is_entangled field_texts found is_export_operand is_export_name is_fit_operand is_literal special_builtin plain_builtin builtin_of builtin_ending builtins refused_builtins standard_words bash_words other_commands
+unfolding body_len is_of behind fields bytes_of matches piece_at piece_len piece_doubt pieces_of doubt_of number_of has_crowded_lists is_entangled field_texts found is_export_operand is_export_name is_fit_operand is_literal special_builtin plain_builtin builtin_of builtin_ending builtins refused_builtins standard_words bash_words other_commands are_written has_fit_value are_operands
 words_are = refl
 
 abbrev substitutions : List (Option (Text × ℕ))
@@ -131,7 +131,7 @@ substitutions =
     shows (sets (w (codes "1")) ∷ plainly (subshell (script_of (sets (w (codes "2")) ∷ echo (bare x) ∷ []))) ∷ echo (bare x) ∷ []) ∷ []
 
 shells_are : substitutions ≡ Some (codes "1\n", 0) ∷ Some (codes "1\n", 0) ∷ Some (codes "a\n", 0) ∷ Some (codes "2\n1\n", 0) ∷ []
-unfolding digits_of substitution_text is_of behind fields bytes_of has_crowded_lists field_texts found is_export_operand is_export_name is_fit_operand is_literal special_builtin plain_builtin builtin_of builtin_ending builtins refused_builtins standard_words bash_words other_commands
+unfolding digits_of substitution_text is_of behind fields bytes_of has_crowded_lists field_texts found is_export_operand is_export_name is_fit_operand is_literal special_builtin plain_builtin builtin_of builtin_ending builtins refused_builtins standard_words bash_words other_commands are_written has_fit_value are_operands
 shells_are = refl
 
 -- echo a >f; case f in [f]) echo *;; esac
@@ -141,7 +141,7 @@ matching =
     ∷ plainly (cases (w (codes "f")) (item (words_of (w (codes "[f]") ∷ [])) (script_of (echo (w (codes "*")) ∷ [])) no_item)) ∷ []
 
 patterns_are : shows matching ≡ Some (codes "f\n", 0)
-unfolding names_path path_text digits_of body_len body_of mark_len class_len element_len class_named class_at is_range member_len member_at members_of is_doubtful is_bad_range range_doubt member_doubt members_doubt components_of found_paths is_of behind fields bytes_of matches piece_at piece_len piece_doubt pieces_of doubt_of has_crowded_lists field_texts found is_export_operand is_export_name is_fit_operand is_literal special_builtin plain_builtin builtin_of builtin_ending builtins refused_builtins standard_words bash_words other_commands
+unfolding names_path path_text digits_of body_len body_of mark_len class_len element_len class_named class_at is_range member_len member_at members_of is_doubtful is_bad_range range_doubt member_doubt members_doubt components_of found_paths is_of behind fields bytes_of matches piece_at piece_len piece_doubt pieces_of doubt_of has_crowded_lists field_texts found is_export_operand is_export_name is_fit_operand is_literal special_builtin plain_builtin builtin_of builtin_ending builtins refused_builtins standard_words bash_words other_commands are_written has_fit_value are_operands
 patterns_are = refl
 
 -- ---- commands (2.9)
@@ -168,7 +168,7 @@ jumping =
     shows (plainly (simple (assign (codes "x") (value (w (codes "1"))) no_assign) (words_of (w (codes "true") ∷ []))) ∷ echo (quoted x) ∷ []) ∷ []
 
 commands_are : jumping ≡ Some (codes "a\n", 0) ∷ None ∷ Some (codes "a\n", 4) ∷ Some (codes "3\n", 0) ∷ Some (codes "a\n", 0) ∷ Some (codes "*\n", 0) ∷ Some (codes "\n", 0) ∷ []
-unfolding digits_of names_path path_text number_of is_of behind fields bytes_of line_items without_end texts_of has_crowded_lists field_texts found is_export_operand is_export_name is_fit_operand is_literal special_builtin plain_builtin builtin_of builtin_ending builtins refused_builtins standard_words bash_words other_commands begins_name continues_name is_entangled
+unfolding digits_of names_path path_text number_of is_of behind fields bytes_of line_items without_end texts_of has_crowded_lists field_texts found is_export_operand is_export_name is_fit_operand is_literal special_builtin plain_builtin builtin_of builtin_ending builtins refused_builtins standard_words bash_words other_commands begins_name continues_name is_entangled are_written has_fit_value are_operands
 commands_are = refl
 
 -- echo a | read x; echo "$x"
@@ -176,7 +176,7 @@ abbrev reading : Script
 reading = pipes (echo (w (codes "a"))) (calls (w (codes "read") ∷ w (codes "x") ∷ [])) (script_of (echo (quoted x) ∷ []))
 
 latitudes_are : shown (run (in_world false) reading 5 2) ∷ shown (run (in_world true) reading 5 2) ∷ [] ≡ Some (codes "\n", 0) ∷ Some (codes "a\n", 0) ∷ []
-unfolding number_of is_of behind fields bytes_of line_items without_end texts_of has_crowded_lists field_texts found is_export_operand is_export_name is_fit_operand is_literal special_builtin plain_builtin builtin_of builtin_ending builtins refused_builtins standard_words bash_words other_commands begins_name continues_name
+unfolding number_of is_of behind fields bytes_of line_items without_end texts_of has_crowded_lists field_texts found is_export_operand is_export_name is_fit_operand is_literal special_builtin plain_builtin builtin_of builtin_ending builtins refused_builtins standard_words bash_words other_commands begins_name continues_name are_written has_fit_value are_operands
 latitudes_are = refl
 
 -- ---- bounds
@@ -196,7 +196,7 @@ counting =
     going (ends (plainly (function (codes "f") (plainly (group (script_of (echo (w (codes "a")) ∷ calls (w (codes "f") ∷ []) ∷ []))))) ∷ calls (w (codes "f") ∷ []) ∷ [])) ∷ []
 
 bounds_are : counting ≡ Some (codes "a\na\na\na\na\n") ∷ Some [] ∷ Some (codes "a\na\n") ∷ []
-unfolding number_of is_of behind fields bytes_of has_crowded_lists field_texts found is_export_operand is_export_name is_fit_operand is_literal special_builtin plain_builtin builtin_of builtin_ending builtins refused_builtins standard_words bash_words other_commands
+unfolding number_of is_of behind fields bytes_of has_crowded_lists field_texts found is_export_operand is_export_name is_fit_operand is_literal special_builtin plain_builtin builtin_of builtin_ending builtins refused_builtins standard_words bash_words other_commands are_written has_fit_value are_operands
 bounds_are = refl
 
 -- ---- arithmetic (2.6.4)
