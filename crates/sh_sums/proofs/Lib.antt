@@ -1,0 +1,3 @@
+mod Equations
+mod Turns
+mod Sizes
