@@ -1,5 +1,6 @@
 //! Jobs of sh, each with the whole report that `run-sh` writes. The reports were worked out by the profile's rules;
-//! `tests/real_sh` compares them with what the shells at hand do.
+//! `tests/real_sh` compares them with what the shells at hand do. A job states a latitude exactly where its report depends
+//! on it.
 
 mod arithmetic;
 mod bounds;

@@ -39,8 +39,8 @@ pub const ROWS: [(&[u8], &[u8]); 30] = [
     ),
     // a loop without end and without commands outside
     (
-        br#"{"script":"until false; do :; done"}"#,
-        br#"{"calls":[],"end":"goes-on","err":"","files":null,"out":"","status":null,"turns":100000}
+        br#"{"script":"until false; do :; done","turns":500}"#,
+        br#"{"calls":[],"end":"goes-on","err":"","files":null,"out":"","status":null,"turns":500}
 "#,
     ),
     // `continue` in a test without end
