@@ -1,0 +1,9 @@
+use Rattle.std.proofs.Common.{◌≡◌, length}
+use Rattle.bash_grammar.specs.Bytes as bytes_of
+use Rattle.bash_tokens.proofs.gaps.gap.Given as goal
+
+abbrev pub invariant-blanks : goal.invariant-blanks
+invariant-blanks l = bytes_of.gap l.rest ≡ bytes_of.gap l.bytes
+
+abbrev pub decreases-blanks : goal.decreases-blanks
+decreases-blanks l = length l.rest
