@@ -1,49 +1,22 @@
+//! One text that is read, and one that isn't; sh_reprint has the tables.
+
 use super::*;
-use sh_syntax::Script;
-use span_text::Text;
-use std::alloc::Global;
-use std::process::Abort;
 use std::test::Fail;
 
-mod back;
-mod borders;
-mod commands;
-mod deep;
-mod joins;
-mod picture;
-mod refused;
-mod words;
-
-use picture::picture_of;
-
-/// Reads a text, which is short.
-fn read_short(rt: &impl Abort, alloc: Global, text: &[u8]) -> Result<Script, ReadFault> {
-    assert!(rt; text.len() <= u32::MAX as usize);
-    read(alloc, text)
-}
-
-/// Reads each text, and compares what it is with the picture that stands behind it.
-fn read_as(rt: &impl Abort, alloc: Global, table: &[(&[u8], &[u8])]) -> Result<(), Fail> {
-    for (text, wanted) in table {
-        let mut shown = Text::new(alloc);
-        match read_short(rt, alloc, text) {
-            Ok(script) => picture_of(&script, &mut shown)?,
-            Err(ReadFault::Memory) => shown.append(b"MEMORY")?,
-            Err(ReadFault::Unreadable(_)) => shown.append(b"UNREADABLE")?,
-        }
-        assert_eq!(rt; (*text, shown.bytes()), (*text, *wanted));
+#[test]
+fn a_script_is_read(rt: HostRuntime) -> Result<(), Fail> {
+    match read(rt.alloc(), b"a; b") {
+        Ok(script) => assert_eq!(&rt; script.items.len(), 2),
+        Err(_) => assert!(&rt; false),
     }
     Ok(())
 }
 
-/// Each text isn't read, and has the place that stands behind it.
-fn refused_at(rt: &impl Abort, alloc: Global, table: &[(&[u8], u32)]) -> Result<(), Fail> {
-    for (text, at) in table {
-        match read_short(rt, alloc, text) {
-            Ok(_) => assert_eq!(rt; (*text, u32::MAX), (*text, *at)),
-            Err(ReadFault::Memory) => assert_eq!(rt; (*text, u32::MAX), (*text, *at)),
-            Err(ReadFault::Unreadable(place)) => assert_eq!(rt; (*text, place), (*text, *at)),
-        }
+#[test]
+fn what_is_no_script_is_refused(rt: HostRuntime) -> Result<(), Fail> {
+    match read(rt.alloc(), b"a\nif b\n") {
+        Ok(_) => assert!(&rt; false),
+        Err(fault) => assert_eq!(&rt; fault, ReadFault::Unreadable(2)),
     }
     Ok(())
 }

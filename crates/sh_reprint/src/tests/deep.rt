@@ -1,5 +1,5 @@
 use super::read_short;
-use crate::ReadFault;
+use sh_parser::ReadFault;
 use span_text::Text;
 use std::alloc::Global;
 use std::process::Abort;

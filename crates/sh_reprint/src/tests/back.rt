@@ -2,7 +2,7 @@
 
 use super::picture::picture_of;
 use super::read_short;
-use crate::ReadFault;
+use sh_parser::ReadFault;
 use sh_printer::print;
 use sh_syntax::Script;
 use span_text::{List, MemorySink, Text};
