@@ -1,0 +1,2 @@
+mod PartViews
+mod Counting
