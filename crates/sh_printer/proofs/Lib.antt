@@ -1,6 +1,8 @@
 pub mod Bodies
 pub mod Chains
+pub mod Checked
 pub mod Comings
+pub mod CommandChecks
 pub mod CommandTexts
 pub mod Covers
 pub mod Firsts
@@ -10,11 +12,15 @@ pub mod LastWords
 pub mod Lines
 pub mod Numbers
 pub mod Openings
+pub mod OperandChecks
+pub mod PartChecks
 pub mod PartViews
 pub mod Puts
 pub mod RedirectTexts
 pub mod Searches
+pub mod SumFits
 pub mod SumJoins
 pub mod SumTexts
 pub mod ValueViews
 pub mod Walks
+pub mod WordChecks
