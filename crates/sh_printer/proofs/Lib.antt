@@ -1,6 +1,7 @@
 pub mod Bodies
 pub mod Chains
 pub mod Comings
+pub mod CommandChecks
 pub mod CommandTexts
 pub mod Covers
 pub mod Firsts
@@ -10,11 +11,14 @@ pub mod LastWords
 pub mod Lines
 pub mod Numbers
 pub mod Openings
+pub mod PartChecks
 pub mod PartViews
 pub mod Puts
 pub mod RedirectTexts
 pub mod Searches
+pub mod SumFits
 pub mod SumJoins
 pub mod SumTexts
 pub mod ValueViews
 pub mod Walks
+pub mod WordChecks

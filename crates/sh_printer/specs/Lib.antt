@@ -1,8 +1,11 @@
 pub mod Chains
+pub mod Checks
 pub mod Codes
 pub mod Covers
 pub mod Levels
 pub mod Owed
+pub mod Parts
 pub mod Pieces
 pub mod Search
+pub mod SumChecks
 pub mod Weights

@@ -39,7 +39,7 @@ pub fn command_apart(piece: CommandPiece<'_>) -> Split<'_>
     }
 }
 
-fn has_assigns(assigns: &[Assign]) -> bool
+pub fn has_assigns(assigns: &[Assign]) -> bool
     ensures { result ≡ has_assign (assigns_of (map view_assign assigns.now)) }
 {
     match assigns {
@@ -48,7 +48,7 @@ fn has_assigns(assigns: &[Assign]) -> bool
     }
 }
 
-fn has_words(words: &[Word]) -> bool
+pub fn has_words(words: &[Word]) -> bool
     ensures { result ≡ has_word (words_of (map view_word words.now)) }
 {
     match words {

@@ -1,7 +1,7 @@
 //! Where parts of words stand, which says how they are quoted.
 
 ghost use Rattle.std.specs.Prelude.{◌≡◌};
-ghost use Rattle.sh_grammar.specs.Bytes.{has_single, fill_context, trim_context};
+ghost use Rattle.sh_grammar.specs.Bytes.{has_double, has_single, fill_context, trim_context};
 ghost use Rattle.sh_printer.specs.Codes.{view_context};
 
 #[derive(Clone, Copy, Debug, PartialEq, Eq)]
@@ -34,6 +34,17 @@ pub fn has_single(context: Context) -> bool
         | Context::QuotedBrace
         | Context::BodyBrace
         | Context::BodyPattern => false,
+    }
+}
+
+/// Whether `".."` quotes there.
+#[tactic(auto, unfolding(sh_grammar::specs::Bytes::has_double))]
+pub fn has_double(context: Context) -> bool
+    ensures { result ≡ has_double (view_context context) }
+{
+    match context {
+        Context::Word | Context::Brace | Context::QuotedBrace => true,
+        Context::Double | Context::Body | Context::BodyBrace | Context::BodyPattern => false,
     }
 }
 

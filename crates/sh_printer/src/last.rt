@@ -67,7 +67,7 @@ pub fn last_words(kind: &CommandKind) -> &[Word]
 }
 
 /// Whether these parts would be a reserved word where a command begins.
-fn is_reserved_word(parts: &[Part]) -> bool
+pub fn is_reserved_word(parts: &[Part]) -> bool
     ensures { result ≡ is_reserved_word (parts_of (map view_part parts.now)) }
 {
     match parts {
@@ -92,7 +92,7 @@ fn is_reserved_part(part: &Part) -> bool
 }
 
 /// The reserved words.
-fn is_reserved_text(text: &[u8]) -> bool
+pub fn is_reserved_text(text: &[u8]) -> bool
     ensures { result ≡ is_reserved_text text.now }
 {
     begins_compound(text) || is_other_key(text)

@@ -17,7 +17,7 @@ use itoa::Buffer;
 use sh_syntax::{FillTest, Param};
 use span_text::{Failed, Sink};
 
-fn is_quote(text: &[u8]) -> bool
+pub fn is_quote(text: &[u8]) -> bool
     ensures { result ≡ is_quote text.now }
 {
     match text {

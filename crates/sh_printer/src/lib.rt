@@ -5,6 +5,7 @@
 //! here-document a delimiter that is no line of its body.
 #![tactic(auto)]
 
+mod checking;
 mod commands;
 mod context;
 mod last;
@@ -19,4 +20,5 @@ mod search;
 mod sums;
 mod words;
 
+pub use checking::printable;
 pub use printer::print;

@@ -35,7 +35,7 @@ pub fn sum_apart<'a>(piece: SumPiece<'a>, operands: Operands<'a>) -> Split<'a>
 }
 
 /// The level of an expression: 0 is the comma, 15 what stands for itself.
-fn level(expr: &Expr) -> u8
+pub fn level(expr: &Expr) -> u8
     ensures { result ≡ own_level expr.now }
 {
     match expr {
@@ -87,7 +87,7 @@ fn bare_apart<'a>(expr: &'a Expr, operands: Operands<'a>) -> Split<'a>
 
 /// How many operators of a chain `a + b + c` stand before this expression's last one, and this one: those between operands
 /// whose first operand stands without parentheses.
-fn links(expr: &Expr) -> usize
+pub fn links(expr: &Expr) -> usize
     ensures chained { Chained result expr.now }
     ensures ends { result < 2 ^ 64 - 1 → has_first (down result expr.now) ≡ false }
 {
@@ -102,7 +102,7 @@ fn links(expr: &Expr) -> usize
 }
 
 /// The expression so many first operands down.
-fn below(expr: &Expr, count: usize) -> &Expr
+pub fn below(expr: &Expr, count: usize) -> &Expr
     ensures { result.now ≡ down count expr.now }
 {
     let mut now = expr;

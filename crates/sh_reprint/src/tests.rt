@@ -1,3 +1,6 @@
+mod printable;
+mod trees;
+
 use crate::reprint::{ReprintFault, reprint};
 use span_text::{List, MemorySink};
 use std::test::Fail;

@@ -1,0 +1,8 @@
+use Rattle.std.proofs.Common.{◌≡◌, ℕ, suc, ◌<◌, Bool, true, false, not, ◌&&◌, refl, sym, ap, ◌∙◌, arith}
+use Rattle.sh_printer.specs.Checks.{command_check_weight, command_holds, word_check_weight, word_holds}
+use Rattle.sh_syntax.proofs.Views.{function_is}
+use Rattle.sh_printer.proofs.checking.commands.function_apart.Goals as goal
+
+pub returns : goal.returns
+unfolding word_holds word_check_weight command_holds command_check_weight
+returns c = record { whole = rw (c.body_fits.ensures, c.bytes-name.ensures, c.get-body.ensures, function_is c.args.function.now) refl; first_less = omega arith; second_less = omega arith; rest_less = rw (c.get-body.ensures, function_is c.args.function.now) (omega arith) }

@@ -1,0 +1,11 @@
+use Rattle.std.proofs.Common.{◌≡◌, ℕ, suc, ◌<◌, Bool, true, false, not, ◌&&◌, refl, sym, ap, ◌∙◌, arith}
+use Rattle.std.specs.Prelude.{map}
+use Rattle.std.proofs.Common.{List}
+use Rattle.sh_printer.proofs.Firsts.{first}
+use Rattle.sh_printing.specs.Printable.{name_fits}
+use Rattle.sh_syntax.specs.declared.tree.Word.{Word}
+use Rattle.sh_syntax.specs.View.{view_word, words_of}
+use Rattle.sh_printer.proofs.checking.commands.name_fits.Goals as goal
+
+pub returns-in-len1-up : goal.returns-in-len1-up
+returns-in-len1-up c = c.first_fits.ensures ∙ sym (ap (λ (l : List Word). name_fits c.args.led (words_of (map view_word l))) (first c.args.words.now c.first-item.result c.in-len1-up.len_at_least c.first-item.is))

@@ -1,0 +1,24 @@
+use Rattle.std.proofs.Common.{◌≡◌, Bool, true, false, [], refl, ap, arith}
+use Rattle.sh_printer.specs.Checks.{command_check_weight, command_holds, word_check_weight, word_holds}
+use Rattle.sh_printer.proofs.Firsts.{none, first}
+use Rattle.sh_printer.proofs.WordChecks.{splitting, operand_split}
+use Rattle.sh_printer.proofs.Firsts.{parts_weigh}
+use Rattle.sh_printer.proofs.checking.words.operand_apart.Goals as goal
+
+pub returns-in-empty : goal.returns-in-empty
+unfolding word_holds word_check_weight command_holds command_check_weight
+returns-in-empty c =
+    let e : c.args.parts.now ≡ [] = none c.args.parts.now (omega arith) in
+    splitting false _ 1 _ c.known.result (rw e refl) (omega arith) c.known.ensures
+
+pub returns-in-len1-up : goal.returns-in-len1-up
+unfolding word_holds word_check_weight command_holds command_check_weight
+returns-in-len1-up c =
+    let e = first c.args.parts.now c.first-item.result c.in-len1-up.len_at_least c.first-item.is in
+    let k = parts_weigh c.args.parts.now c.first-item.result e in
+    record {
+      whole = rw (c.is_only_expansion.ensures, c.split_at.ensures.back) (operand_split c.args.nesting.in_body c.args.nesting.depth c.args.parts.now c.first-item.result e);
+      first_less = omega (arith, k);
+      second_less = omega (arith, k);
+      rest_less = rw c.split_at.ensures.back (omega (arith, k));
+    }
