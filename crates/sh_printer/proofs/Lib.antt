@@ -1,5 +1,6 @@
 pub mod Bodies
 pub mod Chains
+pub mod Checked
 pub mod Comings
 pub mod CommandChecks
 pub mod CommandTexts
@@ -11,6 +12,7 @@ pub mod LastWords
 pub mod Lines
 pub mod Numbers
 pub mod Openings
+pub mod OperandChecks
 pub mod PartChecks
 pub mod PartViews
 pub mod Puts

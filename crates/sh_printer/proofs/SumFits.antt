@@ -43,7 +43,14 @@ levelled own f = record { is_variable = false; fits = λ wanted d n. if nat_le w
 abbrev placed_at : (own : ℕ) → Placed → (w d n : ℕ) → Option ℕ
 placed_at own p w d n = if (own == 15) || nat_le w own then p.fits 0 d n else (if nat_lt d limit then p.fits 0 (suc d) n else None)
 
-none_both : (a b : Bool) → None ≡ (if a then None else (if b then None else None))
+-- there are no operands
+abbrev nothing : Option ℕ
+nothing = None
+
+abbrev none_of : Counting
+none_of k = None
+
+none_both : (a b : Bool) → nothing ≡ (if a then nothing else (if b then nothing else nothing))
 none_both true b = refl
 none_both false true = refl
 none_both false false = refl
@@ -102,7 +109,7 @@ fits_where check e w d n is = sym (bare_by check e w d n true is)
 pub fits_closed : (check : Check) (e : Expr) (w d n : ℕ) → ((own_level e == 15) || nat_le w (own_level e)) ≡ false → nat_lt d limit ≡ true → fits check e 0 (suc d) n ≡ fits check e w d n
 fits_closed check e w d n loose room = sym (bare_by check e w d n false loose ∙ rw room refl)
 
-pub fits_nowhere : (check : Check) (e : Expr) (w d n : ℕ) → ((own_level e == 15) || nat_le w (own_level e)) ≡ false → nat_lt d limit ≡ false → None ≡ fits check e w d n
+pub fits_nowhere : (check : Check) (e : Expr) (w d n : ℕ) → ((own_level e == 15) || nat_le w (own_level e)) ≡ false → nat_lt d limit ≡ false → nothing ≡ fits check e w d n
 fits_nowhere check e w d n loose room = sym (bare_by check e w d n false loose ∙ rw room refl)
 
 or_true : (a : Bool) → (a || true) ≡ true
@@ -114,7 +121,7 @@ fits_bare check e w d n is = sym (bare_by check e w d n true (ap (λ (b : Bool).
 
 -- ---- operators between operands
 
-bind_none : (o : Option ℕ) → (o >>= (λ k. None)) ≡ None
+bind_none : (o : Option ℕ) → (o >>= none_of) ≡ nothing
 bind_none None = refl
 bind_none (Some k) = refl
 
@@ -297,7 +304,7 @@ variable_name false p is = refl
 
 layer_variable : (check : Check) (x : Expr-F Expr) → (place_step check (map-Expr Expr Placed (placed check) x)).is_variable ≡ variable_step x
 layer_variable check (layer.Constant c) = variable_if _ _ refl
-layer_variable check (layer.Name text) = variable_name _ _ refl
+layer_variable check (layer.Name text) = variable_name (is_name text) (record { is_variable = true; fits = λ wanted d n. Some n }) refl
 layer_variable check (layer.Operand k) = refl
 layer_variable check (layer.Member text a) = refl
 layer_variable check (layer.Unary op a) = refl
@@ -336,18 +343,18 @@ counting f g m n split is le c = record {
 }
 
 pub name_counts : (check : Check) (e : Expr) (text : Text) (d n : ℕ) → e ≡ roll-Expr (layer.Name text) → known (is_name text) n ≡ fits check e 0 d n
-name_counts check e text d n is = known_if (is_name text) n ∙ sym (fits_is check e (layer.Name text) 0 d n is ∙ if_fits _ _ 0 d n)
+name_counts check e text d n is = known_if (is_name text) n ∙ sym (fits_is check e (layer.Name text) 0 d n is ∙ if_fits (is_name text) (record { is_variable = true; fits = λ wanted d n. Some n }) 0 d n)
 
 pub operand_counted_is : (check : Check) (e : Expr) (k d n : ℕ) → e ≡ roll-Expr (layer.Operand k) → operand_counts check k d n ≡ fits check e 0 d n
 operand_counted_is check e k d n is = sym (fits_is check e (layer.Operand k) 0 d n is)
 
-pub member_counts : (check : Check) (e a : Expr) (text : Text) (d n : ℕ) → e ≡ roll-Expr (layer.Member text a) → None ≡ fits check e 0 d n
+pub member_counts : (check : Check) (e a : Expr) (text : Text) (d n : ℕ) → e ≡ roll-Expr (layer.Member text a) → nothing ≡ fits check e 0 d n
 member_counts check e a text d n is = sym (fits_is check e (layer.Member text a) 0 d n is)
 
-pub step_counts : (check : Check) (e a : Expr) (op : StepOp) (d n : ℕ) → e ≡ roll-Expr (layer.Step op a) → None ≡ fits check e 0 d n
+pub step_counts : (check : Check) (e a : Expr) (op : StepOp) (d n : ℕ) → e ≡ roll-Expr (layer.Step op a) → nothing ≡ fits check e 0 d n
 step_counts check e a op d n is = sym (fits_is check e (layer.Step op a) 0 d n is)
 
-pub no_comma : (check : Check) (e a b : Expr) (d n : ℕ) → e ≡ roll-Expr (layer.Comma a b) → None ≡ fits check e 0 d n
+pub no_comma : (check : Check) (e a b : Expr) (d n : ℕ) → e ≡ roll-Expr (layer.Comma a b) → nothing ≡ fits check e 0 d n
 no_comma check e a b d n is = sym (fits_is check e (layer.Comma a b) 0 d n is)
 
 pub unary_counts : (check : Check) (e a : Expr) (op : UnOp) (d n : ℕ) → e ≡ roll-Expr (layer.Unary op a) → fits check a 14 d n ≡ fits check e 0 d n

@@ -30,6 +30,10 @@ Counting = ℕ → Option ℕ
 abbrev pub Check : Type 0
 Check = ℕ → ℕ → Bool
 
+-- one behind the other
+abbrev pub behind : Counting → Counting → Counting
+behind f g n = f n >>= g
+
 abbrev pub known : Bool → Counting
 known true n = Some n
 known false n = None

@@ -1,6 +1,6 @@
 //! Texts whose bytes stand for themselves or are quoted (POSIX 2.2).
 
-ghost use Rattle.std.specs.Prelude.{◌≡◌, ◌==◌, not, length, ◌&&◌};
+ghost use Rattle.std.specs.Prelude.{◌≡◌, ◌==◌, ◌&&◌, true, false, not, length};
 ghost use Rattle.std.specs.List.{list_all};
 ghost use Rattle.sh_grammar.specs.Bytes as bytes_of;
 ghost use Rattle.sh_grammar.specs.Bytes.{has_single};
@@ -75,11 +75,18 @@ fn is_bare_dollar(bytes: &[u8]) -> bool
     }
 }
 
+fn is_blank(byte: u8) -> bool
+    ensures { result ≡ bytes_of.is_blank byte }
+{
+    byte == b' ' || byte == b'\t'
+}
+
+/// Whether the byte ends a word or begins an operator (2.3).
 #[tactic(auto, unfolding(sh_grammar::specs::Bytes::is_meta))]
 fn is_meta(byte: u8) -> bool
     ensures { result ≡ bytes_of.is_meta byte }
 {
-    is_in(Class::Blank, byte)
+    is_blank(byte)
         || byte == b'\n'
         || byte == b';'
         || byte == b'&'
@@ -235,9 +242,13 @@ pub fn exact_fits(in_body: bool, context: Context, text: &[u8]) -> bool
 pub fn ends_with(byte: u8, text: &[u8]) -> bool
     ensures { result ≡ ends_with byte text.now }
 {
-    match text {
-        [] => false,
-        [.., last] => *last == byte,
+    let mut rest = text;
+    'bytes: loop {
+        match rest {
+            [] => return false,
+            [last] => return *last == byte,
+            [_, behind @ ..] => rest = behind,
+        }
     }
 }
 

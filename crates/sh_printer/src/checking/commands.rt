@@ -1,6 +1,6 @@
 //! Commands and lists, as pieces that are checked.
 
-ghost use Rattle.std.specs.Prelude.{◌≡◌, ◌≤◌, ◌+◌, ◌||◌, ◌&&◌, not, nat_lt, suc, map, option_map};
+ghost use Rattle.std.specs.Prelude.{◌≡◌, ◌≤◌, ◌+◌, ◌||◌, ◌&&◌, not, nat_lt, suc, map, option_map, Bool, true};
 ghost use Rattle.span_text.specs.Names.{is_name};
 ghost use Rattle.sh_grammar.specs.Shape as shape;
 ghost use Rattle.sh_grammar.specs.Steps.{limit};
@@ -12,7 +12,7 @@ ghost use Rattle.sh_printer.specs.declared.checking.checks.CommandCheck.TheVaria
 ghost use Rattle.sh_printing.specs.Printable.{command_fits, for_words_fit, has_chain, has_compound, has_branch, has_redirect, has_stage, is_assignment, is_compound, list_fits, name_fits, otherwise_fits};
 ghost use Rattle.sh_printing.specs.Printing.{has_assign, has_word};
 ghost use Rattle.sh_printing.specs.Spellable.{is_reserved_text, is_reserved_word};
-ghost use Rattle.sh_syntax.specs.View.{view, view_assign, view_case_item, view_command, view_function, view_item, view_kind, view_redirect, view_word, assigns_of, branches_of, case_items_of, for_words_of, items_of, otherwise_of, redirects_of, stages_of, words_of};
+ghost use Rattle.sh_syntax.specs.View.{view, view_assign, view_case_item, view_command, view_function, view_item, view_kind, view_part, view_redirect, view_word, assigns_of, branches_of, case_items_of, for_words_of, items_of, otherwise_of, parts_of, redirects_of, stages_of, words_of};
 
 use crate::checking::checks::{Check, CheckNode, Checks, CommandCheck, Nesting, WordCheck};
 use crate::checking::names::{deeper, has_room, has_room_for};
@@ -21,7 +21,8 @@ use crate::checking::words::known;
 use crate::commands::{has_assigns, has_words};
 use crate::last::{is_reserved_text, is_reserved_word};
 use sh_syntax::{
-    Assign, CaseItem, Command, CommandKind, Function, Item, Joint, Pipeline, Redirect, Script, Word,
+    Assign, CaseItem, Command, CommandKind, Function, Item, Joint, Part, Pipeline, Redirect,
+    Script, Word,
 };
 use span_text::{List, is_name};
 
@@ -99,14 +100,13 @@ fn name_fits(led: bool, words: &[Word]) -> bool
 {
     match words {
         [] => true,
-        [first, ..] => first_fits(led, first),
+        [first, ..] => first_fits(led, first.parts.as_slice()),
     }
 }
 
-fn first_fits(led: bool, first: &Word) -> bool
-    ensures { result ≡ (not (is_assignment (view_word first.now)) && (led || not (is_reserved_word (view_word first.now)))) }
+fn first_fits(led: bool, parts: &[Part]) -> bool
+    ensures { result ≡ (not (is_assignment (parts_of (map view_part parts.now))) && (led || not (is_reserved_word (parts_of (map view_part parts.now))))) }
 {
-    let parts = first.parts.as_slice();
     !is_assignment(parts) && (led || !is_reserved_word(parts))
 }
 

@@ -2,11 +2,10 @@
 //! for it is printed in parentheses, which are a level of nesting.
 
 ghost use Rattle.std.specs.Prelude.{◌≡◌, ◌≤◌, ◌<◌, ◌+◌, ◌*◌, ◌&&◌, ◌||◌, ◌==◌, nat_le, ℕ, Some};
-ghost use Rattle.sh_grammar.specs.Expansions.{◌>>=◌};
 ghost use Rattle.span_text.specs.Expressions.{level};
 ghost use Rattle.span_text.specs.declared.sign.Infix.TheVariants.{Plain};
 ghost use Rattle.span_text.specs.Expression.{nodes};
-ghost use Rattle.sh_printer.specs.SumChecks.{Check, Counts, SumSplits, fits, is_constant, is_variable, known, last_fits, power_fits, sum_counts, sum_rank};
+ghost use Rattle.sh_printer.specs.SumChecks.{Check, Counts, behind, SumSplits, fits, is_constant, is_variable, known, last_fits, power_fits, sum_counts, sum_rank};
 ghost use Rattle.sh_printer.specs.declared.checking.checks.SumNode.TheVariants as checks;
 ghost use Rattle.sh_printing.specs.Spellable.{assigns, is_power};
 
@@ -241,7 +240,7 @@ fn end_apart<'a>(expr: &'a Expr, depth: usize) -> SumChecks<'a>
 /// An operator between operands, of which this is the first.
 fn infix_apart<'a>(expr: &'a Expr, first: &'a Expr, wanted: u8, depth: usize) -> SumChecks<'a>
     requires { nodes first.now < nodes expr.now }
-    ensures { Counts (λ check n. fits check first.now wanted depth n >>= last_fits check expr.now depth) (200 * nodes expr.now + 100) result }
+    ensures { Counts (λ check. behind (fits check first.now wanted depth) (last_fits check expr.now depth)) (200 * nodes expr.now + 100) result }
 {
     SumChecks {
         first: SumCheck::Known(true),
@@ -257,7 +256,7 @@ fn assigned_apart<'a>(
     value: &'a Expr,
     depth: usize,
 ) -> SumChecks<'a>
-    ensures { Counts (λ check n. (known (is_variable target.now && assigns op) n >>= fits check target.now 0 depth) >>= fits check value.now 1 depth) (200 * (nodes target.now + nodes value.now) + 103) result }
+    ensures { Counts (λ check. behind (behind (known (is_variable target.now && assigns op)) (fits check target.now 0 depth)) (fits check value.now 1 depth)) (200 * (nodes target.now + nodes value.now) + 103) result }
 {
     SumChecks {
         first: SumCheck::Known(assigns_to(target, op)),
@@ -273,7 +272,7 @@ fn choice_apart<'a>(
     otherwise: &'a Expr,
     depth: usize,
 ) -> SumChecks<'a>
-    ensures { Counts (λ check n. (fits check test.now 3 depth n >>= fits check then.now 0 depth) >>= fits check otherwise.now 2 depth) (200 * (nodes test.now + (nodes then.now + nodes otherwise.now)) + 103) result }
+    ensures { Counts (λ check. behind (behind (fits check test.now 3 depth) (fits check then.now 0 depth)) (fits check otherwise.now 2 depth)) (200 * (nodes test.now + (nodes then.now + nodes otherwise.now)) + 103) result }
 {
     SumChecks {
         first: SumCheck::Node(SumNode::Expr(test, 3), depth),

@@ -208,7 +208,7 @@ fn param_apart<'a>(
     behind: &'a [Part],
     nesting: Nesting,
 ) -> Checks<'a>
-    ensures { AsPart nesting context behind.entry (shape.param (view_param param.now) (view_op op.now)) result }
+    ensures { AsPart nesting context behind.now (shape.param (view_param param.now) (view_op op.now)) result }
 {
     match op {
         ParamOp::Plain => known(bare_fits(nesting, is_continued(behind), param)),

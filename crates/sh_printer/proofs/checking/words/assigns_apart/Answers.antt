@@ -25,6 +25,6 @@ returns-in-len1-up c =
     record {
       whole = rw (c.is_name.ensures, c.bytes.ensures, ← a, ← v, c.split_at.ensures.back) (assigns_split c.args.nesting.in_body c.args.nesting.depth c.args.assigns.now c.first-item.result e);
       first_less = omega (arith, k);
-      second_less = rw ← v (omega (arith, k));
+      second_less = rw (← v) (omega (arith, k));
       rest_less = rw c.split_at.ensures.back (omega (arith, k));
     }

@@ -20,5 +20,5 @@ returns-in-len1-up c =
       whole = rw (c.is_only_expansion.ensures, c.split_at.ensures.back) (operand_split c.args.nesting.in_body c.args.nesting.depth c.args.parts.now c.first-item.result e);
       first_less = omega (arith, k);
       second_less = omega (arith, k);
-      rest_less = rw c.split_at.ensures.back (omega (arith, k));
+      rest_less = omega (arith, k);
     }

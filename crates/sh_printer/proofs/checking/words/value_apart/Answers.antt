@@ -1,6 +1,7 @@
 use Rattle.std.proofs.Common.{◌≡◌, ℕ, suc, ◌<◌, Bool, true, false, not, ◌&&◌, refl, sym, ap, ◌∙◌, arith}
 use Rattle.sh_printer.specs.Checks.{command_check_weight, command_holds, word_check_weight, word_holds}
-use Rattle.sh_printer.proofs.WordChecks.{splitting}
+use Rattle.std.proofs.Common.{◌+◌, subst}
+use Rattle.sh_printer.specs.Checks.{Splits}
 use Rattle.sh_grammar.specs.Shape as shape
 use Rattle.sh_printer.specs.Weights.{value_weight}
 use Rattle.sh_printing.specs.Printable.{value_fits}
@@ -9,4 +10,4 @@ use Rattle.sh_printer.proofs.checking.words.value_apart.Goals as goal
 
 pub returns : goal.returns
 unfolding word_holds word_check_weight command_holds command_check_weight
-returns c = splitting _ _ _ _ c.optional_apart.result (ap (value_fits c.args.nesting.in_body c.args.nesting.depth) (sym (value_view _ c.args.value.now))) (omega (arith, ap value_weight (value_view _ c.args.value.now))) c.optional_apart.ensures
+returns c = subst (λ (v : shape.Value). Splits (value_fits c.args.nesting.in_body c.args.nesting.depth v) (value_weight v + 2) c.optional_apart.result) (sym (value_view _ c.args.value.now)) c.optional_apart.ensures
