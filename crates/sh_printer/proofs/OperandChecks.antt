@@ -5,8 +5,10 @@ use Rattle.std.proofs.Math.Bool.{and-false}
 use Rattle.sh_printer.specs.SumChecks.{Check, operand_counts}
 use Rattle.sh_printing.specs.Printable.{operand_checks, operand_fits}
 use Rattle.sh_printing.specs.Spellable.{nth_check}
-use Rattle.sh_syntax.specs.declared.tree.Word.{Word}
-use Rattle.sh_syntax.specs.View.{view_word, words_of}
+use Rattle.sh_syntax.specs.declared.tree.Part.{Part}
+use Rattle.sh_syntax.specs.declared.tree.Word.{Word, out-Word}
+use Rattle.sh_syntax.specs.View.{view_part, view_word, parts_of, words_of}
+use Rattle.sh_syntax.proofs.Views.{word_is}
 
 pub checks_length : (inside : Bool) (ws : List Word) → length (operand_checks inside (words_of (map view_word ws))) ≡ length ws
 checks_length inside [] = refl
@@ -25,6 +27,10 @@ check_at inside (v ∷ ws) (suc k) d w lt is = check_at inside ws k d w (omega a
 
 abbrev nothing : Option ℕ
 nothing = None
+
+-- the parts of a word that was taken from a list
+pub parts_at : (ws : List Word) (n : ℕ) (w : Word) (ps : List Part) → w ≡ get_or ws n w → ps ≡ (out-Word (get_or ws n w)).parts → view_word w ≡ parts_of (map view_part ps)
+parts_at ws n w ps at is = word_is w ∙ ap (λ (v : Word). parts_of (map view_part (out-Word v).parts)) at ∙ ap (λ (l : List Part). parts_of (map view_part l)) (sym is)
 
 -- another number than the next one
 pub other_number : (check : Check) (k d n : ℕ) → (k == n) ≡ false → nothing ≡ operand_counts check k d n

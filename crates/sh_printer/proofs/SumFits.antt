@@ -1,7 +1,9 @@
 -- Arithmetic expressions that are checked: where they stand, and chains of operators.
 use Rattle.std.proofs.Common.{◌≡◌, ℕ, ◌+◌, ◌-◌, ◌*◌, ◌/◌, ◌^◌, ◌≤◌, ◌<◌, zero, suc, Bool, true, false, not, ◌&&◌, ◌||◌, ◌==◌, refl, sym, ap, ◌∙◌, arith}
-use Rattle.std.specs.Prelude.{nat_le, nat_lt, Option, Some, None, if◌then◌else◌}
+use Rattle.std.specs.Prelude.{ℤ, pos, negsuc, nat_le, nat_lt, Option, Some, None, if◌then◌else◌}
 use Rattle.std.proofs.Math.Nat.{pow-succ'}
+use mir.Syntax.{w64}
+use mir.Val.{SFits}
 use Rattle.std.proofs.lemmas.Bool.{le-leb, lt-leb, leb-true}
 use Rattle.span_text.specs.declared.expr.BinOp.{BinOp}
 use Rattle.span_text.specs.declared.expr.BinOp.TheVariants.{Power, Times, Divide, Remainder, Add, Subtract, ShiftLeft, ShiftRight, Less, AtMost, Greater, AtLeast, Equal, Unequal, BitAnd, BitXor, BitOr}
@@ -15,15 +17,16 @@ use Rattle.span_text.specs.declared.expr.Expr.TheViews.{roll-Expr, out-Expr, out
 use Rattle.span_text.specs.declared.expr.Expr.TheFolds.{map-Expr, fold-roll-Expr}
 use Rattle.span_text.specs.declared.sign.Infix.TheVariants as sign
 use Rattle.span_text.specs.Expressions.{level, left_level}
+use Rattle.span_text.specs.ExprTokens.{greatest}
 use Rattle.sh_grammar.specs.Bytes.{Text}
 use Rattle.sh_grammar.specs.Expansions.{◌>>=◌}
 use Rattle.sh_grammar.specs.Steps.{limit}
 use Rattle.sh_printer.specs.Chains.{if_bare, first_step, first_of, has_first_by, has_first, next_by, next_down, down, Chained}
 use Rattle.sh_printer.specs.Levels.{level_step, own_level}
-use Rattle.sh_printer.specs.SumChecks.{Check, Counting, Counts, fits, few_fit, halves_fit, is_variable, known, last_fits, last_step, operand_counts, operators_fit, power_fits, variable_step}
+use Rattle.sh_printer.specs.SumChecks.{Check, Counting, Counts, fits, few_fit, halves_fit, is_constant, is_variable, known, last_fits, last_step, operand_counts, operators_fit, power_fits, variable_step}
 use Rattle.sh_printer.specs.declared.checking.checks.SumChecks.{SumChecks}
 use Rattle.sh_printer.proofs.SumTexts.{own_is}
-use Rattle.sh_printing.specs.Spellable.{Inside, Placed, assigns, is_power, place_step, placed, placed_if}
+use Rattle.sh_printing.specs.Spellable.{Inside, Placed, assigns, is_power, one, place_step, placed, placed_if}
 
 -- ---- an expression opened once
 
@@ -79,8 +82,9 @@ not_fifteen BitXor = refl
 not_fifteen BitOr = refl
 
 layer_stands : (check : Check) (x : Expr-F Expr) (w d n : ℕ) → (place_step check (map-Expr Expr Placed (placed check) x)).fits w d n ≡ placed_at (level_step (map-Expr Expr ℕ own_level x)) (place_step check (map-Expr Expr Placed (placed check) x)) w d n
-layer_stands check (layer.Constant c) w d n = if_fits _ _ w d n ∙ sym (if_fits _ _ 0 d n)
-layer_stands check (layer.Name text) w d n = if_fits _ _ w d n ∙ sym (if_fits _ _ 0 d n)
+layer_stands check (layer.Constant (pos k)) w d n = if_fits (nat_le k greatest) (one (λ d n. Some n)) w d n ∙ sym (if_fits (nat_le k greatest) (one (λ d n. Some n)) 0 d n)
+layer_stands check (layer.Constant (negsuc k)) w d n = refl
+layer_stands check (layer.Name text) w d n = if_fits (is_name text) (record { is_variable = true; fits = λ wanted d n. Some n }) w d n ∙ sym (if_fits (is_name text) (record { is_variable = true; fits = λ wanted d n. Some n }) 0 d n)
 layer_stands check (layer.Operand k) w d n = refl
 layer_stands check (layer.Member text a) w d n = refl
 layer_stands check (layer.Unary op a) w d n = refl
@@ -341,6 +345,13 @@ counting f g m n split is le c = record {
   second_less = omega (arith, c.second_less);
   rest_less = omega (arith, c.rest_less);
 }
+
+-- a constant of 64 bits that isn't negative
+pub constant_counts : (check : Check) (e : Expr) (z : ℤ) (d n : ℕ) → SFits w64 z → e ≡ roll-Expr (layer.Constant z) → known (is_constant z) n ≡ fits check e 0 d n
+constant_counts check e (pos k) d n f is =
+    let small : k < 2 ^ 63 = f.sfits in
+    sym (fits_is check e (layer.Constant (pos k)) 0 d n is ∙ if_fits (nat_le k greatest) (one (λ d n. Some n)) 0 d n ∙ rw (le-leb k greatest (omega (arith, small))) refl)
+constant_counts check e (negsuc k) d n f is = sym (fits_is check e (layer.Constant (negsuc k)) 0 d n is)
 
 pub name_counts : (check : Check) (e : Expr) (text : Text) (d n : ℕ) → e ≡ roll-Expr (layer.Name text) → known (is_name text) n ≡ fits check e 0 d n
 name_counts check e text d n is = known_if (is_name text) n ∙ sym (fits_is check e (layer.Name text) 0 d n is ∙ if_fits (is_name text) (record { is_variable = true; fits = λ wanted d n. Some n }) 0 d n)

@@ -3,12 +3,10 @@ use Rattle.std.proofs.lemmas.Bool.Decides.{nat_tests}
 use Rattle.std.specs.Prelude.{map, Option}
 use Rattle.sh_printer.specs.Checks.{word_check_weight, word_holds}
 use Rattle.sh_printer.specs.SumChecks.{check_of, counted, fits, operand_counted}
-use Rattle.sh_printer.specs.Weights.{parts_weight}
 use Rattle.sh_printing.specs.Printable.{operand_checks, operand_fits}
 use Rattle.sh_printing.specs.Spellable.{is_number}
 use Rattle.sh_syntax.specs.View.{view_word, words_of}
-use Rattle.sh_syntax.proofs.Views.{word_is}
-use Rattle.sh_printer.proofs.OperandChecks.{check_at, check_past, checks_length, next_operand, other_number, unfit_operand}
+use Rattle.sh_printer.proofs.OperandChecks.{check_at, check_past, checks_length, next_operand, other_number, parts_at, unfit_operand}
 use Rattle.sh_printer.proofs.SumTexts.{operand_weight}
 use Rattle.sh_printer.proofs.checking.+printable.Goals as goal
 
@@ -22,18 +20,22 @@ operand_counted-returns-then-number-given t c = unfit_operand (check_of c.args.g
 
 pub operand_counted-holds-requires : goal.operand_counted-holds-requires
 unfolding word_check_weight
-operand_counted-holds-requires t c = (rw c.as_slice.ensures (omega (arith, operand_weight c.args.given.words.now c.args.number c.index-given-number.result (omega (arith, c.if-number-given.false)) c.index-given-number.is, ap parts_weight (word_is c.index-given-number.result), c.decreases)), tt)
+operand_counted-holds-requires t c =
+    let parts = parts_at c.args.given.words.now c.args.number c.index-given-number.result c.as_slice.result.now c.index-given-number.is c.as_slice.ensures in
+    (rw (← parts) (omega (arith, operand_weight c.args.given.words.now c.args.number c.index-given-number.result (omega (arith, c.if-number-given.false)) c.index-given-number.is, c.decreases)), tt)
 
 pub operand_counted-returns-then-holds : goal.operand_counted-returns-then-holds
 unfolding operand_counted word_holds
 operand_counted-returns-then-holds t c =
-    let fits = ap (operand_fits c.args.given.in_body c.args.depth) (word_is c.index-given-number.result) ∙ sym (rw c.as_slice.ensures at c.holds.ensures) ∙ c.if-holds.true in
+    let parts = parts_at c.args.given.words.now c.args.number c.index-given-number.result c.as_slice.result.now c.index-given-number.is c.as_slice.ensures in
+    let fits = ap (operand_fits c.args.given.in_body c.args.depth) parts ∙ sym c.holds.ensures ∙ c.if-holds.true in
     next_operand (check_of c.args.given) c.args.number c.args.depth c.args.count (grind (arith, nat_tests, c.if-number-count.false)) (omega (arith, c.if-number-count.false)) (check_at c.args.given.in_body c.args.given.words.now c.args.number c.args.depth c.index-given-number.result (omega (arith, c.if-number-given.false)) c.index-given-number.is ∙ fits)
 
 pub operand_counted-returns-else-holds : goal.operand_counted-returns-else-holds
 unfolding operand_counted word_holds
 operand_counted-returns-else-holds t c =
-    let fits = ap (operand_fits c.args.given.in_body c.args.depth) (word_is c.index-given-number.result) ∙ sym (rw c.as_slice.ensures at c.holds.ensures) ∙ c.if-holds.false in
+    let parts = parts_at c.args.given.words.now c.args.number c.index-given-number.result c.as_slice.result.now c.index-given-number.is c.as_slice.ensures in
+    let fits = ap (operand_fits c.args.given.in_body c.args.depth) parts ∙ sym c.holds.ensures ∙ c.if-holds.false in
     unfit_operand (check_of c.args.given) c.args.number c.args.depth c.args.count (check_at c.args.given.in_body c.args.given.words.now c.args.number c.args.depth c.index-given-number.result (omega (arith, c.if-number-given.false)) c.index-given-number.is ∙ fits)
 
 pub sum_holds-returns-in-None : goal.sum_holds-returns-in-None

@@ -2,9 +2,18 @@ use Rattle.std.proofs.Common.{◌≡◌, ℕ, suc, ◌<◌, Bool, true, false, n
 use Rattle.span_text.specs.declared.expr.Expr.TheOpen as layer
 use Rattle.span_text.specs.declared.expr.Expr.TheVariants as expr
 use Rattle.sh_printer.proofs.Chains.{nodes_is, some_nodes}
-use Rattle.sh_printer.specs.SumChecks.{known}
-use Rattle.sh_printer.proofs.SumFits.{and_counts, assigned_counts, binary_counts, choice_counts, counting, member_counts, name_counts, no_comma, operand_counted_is, or_counts, step_counts, unary_counts}
+use Rattle.std.proofs.Common.{rules}
+use Rattle.std.proofs.lemmas.Int.{to_z-of_z}
+use mir.Val.{SFits}
+use mir.Syntax.{w64}
+use Rattle.sh_printer.specs.SumChecks.{is_constant, known}
+use Rattle.sh_printer.proofs.SumFits.{and_counts, assigned_counts, binary_counts, choice_counts, constant_counts, counting, member_counts, name_counts, no_comma, operand_counted_is, or_counts, step_counts, unary_counts}
 use Rattle.sh_printer.proofs.checking.sums.end_apart.Goals as goal
+
+pub returns-in-Constant : goal.returns-in-Constant
+returns-in-Constant c =
+    let fits : SFits w64 c.in-Constant.n = search rules in
+    counting _ _ _ _ c.only.result (λ check n. ap (λ (b : Bool). known b n) (c.is_constant.ensures ∙ ap is_constant (to_z-of_z w64 c.in-Constant.n fits)) ∙ constant_counts check c.args.expr.now c.in-Constant.n c.args.depth n fits (c.in-Constant.is ∙ sym (expr.rolls-Constant c.in-Constant.n))) (omega (arith, some_nodes c.args.expr.now)) (c.only.ensures)
 
 pub returns-in-Name : goal.returns-in-Name
 returns-in-Name c = counting _ _ _ _ c.only-in-Name.result (λ check n. ap (λ (b : Bool). known b n) (rw c.bytes.ensures at c.is_name.ensures) ∙ name_counts check c.args.expr.now c.in-Name.text c.args.depth n (c.in-Name.is ∙ sym (expr.rolls-Name c.in-Name.text))) (omega (arith, some_nodes c.args.expr.now)) (c.only-in-Name.ensures)

@@ -26,7 +26,7 @@ unfolding word_holds word_check_weight command_holds command_check_weight
 returns-in-Fill c =
     let p = view_param c.args.param.now in
     let w = view_word c.in-Fill.word in
-    let same = rw (c.as_slice.ensures, ← (word_is c.in-Fill.word)) at c.fill_fits.ensures in
+    let same = rw (c.as_slice.ensures, ← (word_is c.in-Fill.word)) at c.fill_fits-fits.ensures in
     rw (c.in-Fill.is, fill_is c.in-Fill.test c.in-Fill.colon c.in-Fill.word) (splitting _ _ _ _ c.closed_apart.result (rw (same, c.fill_context.ensures) (ap (λ (b : Bool). b && parts_fit c.args.nesting.in_body (suc c.args.nesting.depth) (fill_context (view_context c.args.context)) w) (sym (and_assoc (nat_lt c.args.nesting.depth limit) (param_fits p) (not (is_length p (view_test c.in-Fill.test) c.in-Fill.colon w)))))) (omega arith) c.closed_apart.ensures)
 
 pub returns-in-Trim : goal.returns-in-Trim
@@ -34,5 +34,5 @@ unfolding word_holds word_check_weight command_holds command_check_weight
 returns-in-Trim c =
     let p = view_param c.args.param.now in
     let w = view_word c.in-Trim.pattern in
-    let same = rw (c.as_slice-in-Trim.ensures, ← (word_is c.in-Trim.pattern)) at c.trim_fits.ensures in
+    let same = rw (c.as_slice-in-Trim.ensures, ← (word_is c.in-Trim.pattern)) at c.trim_fits-fits.ensures in
     rw (c.in-Trim.is, trim_is c.in-Trim.suffix c.in-Trim.longest c.in-Trim.pattern) (splitting _ _ _ _ c.closed_apart-in-Trim.result (rw (same, c.trim_context.ensures) (ap (λ (b : Bool). b && parts_fit c.args.nesting.in_body (suc c.args.nesting.depth) (trim_context (view_context c.args.context)) w) (sym (and_assoc (nat_lt c.args.nesting.depth limit) (param_fits p) (not (changes_mark p c.in-Trim.suffix c.in-Trim.longest w)))))) (omega arith) c.closed_apart-in-Trim.ensures)
