@@ -8,7 +8,42 @@ use Rattle.sh_printing.specs.Spellable.{is_number}
 use Rattle.sh_syntax.specs.View.{view_word, words_of}
 use Rattle.sh_printer.proofs.OperandChecks.{check_at, check_past, checks_length, next_operand, other_number, parts_at, unfit_operand}
 use Rattle.sh_printer.proofs.SumTexts.{operand_weight}
+use Rattle.sh_printer.specs.declared.checking.checks.SumCheck.{SumCheck}
+use Rattle.sh_printer.specs.SumChecks.{node_counts, sum_counts, sum_rank}
+use Rattle.sh_printer.proofs.Checked.{first_none, second_none, rest_counts}
 use Rattle.sh_printer.proofs.checking.+printable.Goals as goal
+
+pub counted-returns-in-Known : goal.counted-returns-in-Known
+unfolding counted
+counted-returns-in-Known t c = c.counted_if.ensures ∙ sym (ap (λ (s : SumCheck). counted c.args.given s c.sums.count) c.in-Known.is) ∙ c.sums.invariant.0
+
+pub counted-returns-in-Operand : goal.counted-returns-in-Operand
+unfolding counted operand_counted
+counted-returns-in-Operand t c = c.operand_counted.ensures ∙ sym (ap (λ (s : SumCheck). counted c.args.given s c.sums.count) c.in-Operand.is) ∙ c.sums.invariant.0
+
+pub counted-returns-in_err-count-in-Node : goal.counted-returns-in_err-count-in-Node
+unfolding counted
+counted-returns-in_err-count-in-Node t c =
+    let check = check_of c.args.given in
+    let here = sym (ap (λ (s : SumCheck). counted c.args.given s c.sums.count) c.in-Node.is) ∙ c.sums.invariant.0 in
+    let same = c.sum_apart-split.ensures.same check c.sums.count in
+    c.from_residual.ensures ∙ first_none (sum_counts check c.sum_apart-split.result.first c.sums.count) (node_counts check c.in-Node.node c.in-Node.depth c.sums.count) (sum_counts check c.sum_apart-split.result.second) (sum_counts check c.sum_apart-split.result.rest) same (sym c.counted.ensures ∙ c.in_err-count-in-Node.was) ∙ here
+
+pub counted-returns-in_err-count-in-Node-2 : goal.counted-returns-in_err-count-in-Node-2
+unfolding counted
+counted-returns-in_err-count-in-Node-2 t c =
+    let check = check_of c.args.given in
+    let here = sym (ap (λ (s : SumCheck). counted c.args.given s c.sums.count) c.in-Node.is) ∙ c.sums.invariant.0 in
+    let same = c.sum_apart-split.ensures.same check c.sums.count in
+    c.from_residual-in_err-count-in-Node-2.ensures ∙ second_none (sum_counts check c.sum_apart-split.result.first c.sums.count) (node_counts check c.in-Node.node c.in-Node.depth c.sums.count) (sum_counts check c.sum_apart-split.result.second) (sum_counts check c.sum_apart-split.result.rest) c.in_ok-count-in-Node.count same (sym c.counted.ensures ∙ c.in_ok-count-in-Node.was) (sym c.counted-in-Node.ensures ∙ c.in_err-count-in-Node-2.was) ∙ here
+
+pub counted-sums-preserved : goal.counted-sums-preserved
+unfolding counted
+counted-sums-preserved t c =
+    let check = check_of c.args.given in
+    let here = sym (ap (λ (s : SumCheck). counted c.args.given s c.sums.count) c.in-Node.is) ∙ c.sums.invariant.0 in
+    let same = c.sum_apart-split.ensures.same check c.sums.count in
+    (rest_counts (sum_counts check c.sum_apart-split.result.first c.sums.count) (node_counts check c.in-Node.node c.in-Node.depth c.sums.count) (sum_counts check c.sum_apart-split.result.second) (sum_counts check c.sum_apart-split.result.rest) c.in_ok-count-in-Node.count c.in_ok-count-in-Node-2.count same (sym c.counted.ensures ∙ c.in_ok-count-in-Node.was) (sym c.counted-in-Node.ensures ∙ c.in_ok-count-in-Node-2.was) ∙ here, omega (arith, ap sum_rank c.in-Node.is, c.sums.invariant.1, c.sum_apart-split.ensures.rest_less))
 
 pub operand_counted-returns-then-number-count : goal.operand_counted-returns-then-number-count
 unfolding operand_counted
