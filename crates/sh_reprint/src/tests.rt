@@ -14,7 +14,9 @@ mod commands;
 mod deep;
 mod joins;
 mod picture;
+mod printable;
 mod refused;
+mod trees;
 mod words;
 
 use picture::picture_of;
