@@ -1,11 +1,11 @@
 //! Trees that are built by hand.
 
-use span_text::{BinOp, Boxed, Expr, List, Memory, Span, Text};
-use std::alloc::Global;
 use sh_syntax::{
     AndOr, Arith, Assign, AssignValue, Command, CommandKind, Item, Name, Param, ParamOp, Part,
     PartKind, Pipeline, Redirect, RedirectOp, Script, Word,
 };
+use span_text::{BinOp, Boxed, Expr, List, Memory, Span, Text};
+use std::alloc::Global;
 
 pub const NOWHERE: Span = Span { from: 0, to: 0 };
 

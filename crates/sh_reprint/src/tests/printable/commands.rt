@@ -1,13 +1,13 @@
 use super::shows;
 use crate::tests::trees::{
-    alone, assigns, calls, command, does, exact, item, name, nothing, one, plain,
-    plain_word, redirected, simple, two, word,
+    alone, assigns, calls, command, does, exact, item, name, nothing, one, plain, plain_word,
+    redirected, simple, two, word,
 };
+use sh_syntax::{CaseItem, CommandKind, Function, Pipeline, RedirectOp, Script};
 use span_text::{Boxed, List, Memory};
 use std::alloc::Global;
 use std::process::Abort;
 use std::test::Fail;
-use sh_syntax::{CaseItem, CommandKind, Function, Pipeline, RedirectOp, Script};
 
 #[test]
 fn lists_of_commands(rt: HostRuntime) -> Result<(), Fail> {
@@ -26,9 +26,17 @@ fn lists_of_commands(rt: HostRuntime) -> Result<(), Fail> {
 #[test]
 fn compound_commands_hold_commands(rt: HostRuntime) -> Result<(), Fail> {
     let alloc = rt.alloc();
-    shows(&rt, does(alloc, CommandKind::Group(calls(alloc, b"a")?))?, true)?;
+    shows(
+        &rt,
+        does(alloc, CommandKind::Group(calls(alloc, b"a")?))?,
+        true,
+    )?;
     shows(&rt, does(alloc, CommandKind::Group(nothing(alloc)))?, false)?;
-    shows(&rt, does(alloc, CommandKind::Subshell(nothing(alloc)))?, false)?;
+    shows(
+        &rt,
+        does(alloc, CommandKind::Subshell(nothing(alloc)))?,
+        false,
+    )?;
     let no_body = CommandKind::Loop {
         until: true,
         test: calls(alloc, b"a")?,
@@ -92,10 +100,18 @@ fn reserved_words_behind_others(rt: HostRuntime) -> Result<(), Fail> {
     shows(&rt, assigns(alloc, b"a", value, words)?, true)?;
     let words = one(alloc, plain_word(alloc, b"fi")?)?;
     let target = one(alloc, plain(alloc, b"x")?)?;
-    shows(&rt, redirected(alloc, words, None, RedirectOp::Write, target)?, true)?;
+    shows(
+        &rt,
+        redirected(alloc, words, None, RedirectOp::Write, target)?,
+        true,
+    )?;
     let words = one(alloc, plain_word(alloc, b"a=b")?)?;
     let target = one(alloc, plain(alloc, b"x")?)?;
-    shows(&rt, redirected(alloc, words, None, RedirectOp::Write, target)?, false)?;
+    shows(
+        &rt,
+        redirected(alloc, words, None, RedirectOp::Write, target)?,
+        false,
+    )?;
     let quoted = one(alloc, word(one(alloc, exact(alloc, b"if")?)?))?;
     shows(&rt, does(alloc, simple(alloc, quoted))?, true)
 }
@@ -121,14 +137,44 @@ fn redirections(rt: HostRuntime) -> Result<(), Fail> {
 #[test]
 fn bodies_of_documents(rt: HostRuntime) -> Result<(), Fail> {
     let alloc = rt.alloc();
-    shows(&rt, aimed(alloc, None, RedirectOp::HereLiteral, b"$'`\\\n")?, true)?;
-    shows(&rt, aimed(alloc, None, RedirectOp::HereLiteral, b"b")?, false)?;
-    shows(&rt, aimed(alloc, None, RedirectOp::HereLiteral, b"\0\n")?, false)?;
-    shows(&rt, aimed(alloc, None, RedirectOp::HereExpanded, b"b'\"\n")?, true)?;
-    shows(&rt, aimed(alloc, None, RedirectOp::HereExpanded, b"b")?, false)?;
-    shows(&rt, aimed(alloc, None, RedirectOp::HereExpanded, b"b\\\n")?, false)?;
+    shows(
+        &rt,
+        aimed(alloc, None, RedirectOp::HereLiteral, b"$'`\\\n")?,
+        true,
+    )?;
+    shows(
+        &rt,
+        aimed(alloc, None, RedirectOp::HereLiteral, b"b")?,
+        false,
+    )?;
+    shows(
+        &rt,
+        aimed(alloc, None, RedirectOp::HereLiteral, b"\0\n")?,
+        false,
+    )?;
+    shows(
+        &rt,
+        aimed(alloc, None, RedirectOp::HereExpanded, b"b'\"\n")?,
+        true,
+    )?;
+    shows(
+        &rt,
+        aimed(alloc, None, RedirectOp::HereExpanded, b"b")?,
+        false,
+    )?;
+    shows(
+        &rt,
+        aimed(alloc, None, RedirectOp::HereExpanded, b"b\\\n")?,
+        false,
+    )?;
     let words = one(alloc, plain_word(alloc, b"a")?)?;
-    let empty = redirected(alloc, words, None, RedirectOp::HereExpanded, List::new(alloc))?;
+    let empty = redirected(
+        alloc,
+        words,
+        None,
+        RedirectOp::HereExpanded,
+        List::new(alloc),
+    )?;
     shows(&rt, empty, true)
 }
 

@@ -4,10 +4,10 @@ use super::shows;
 use crate::tests::trees::{
     alone, binary, calls, command, does, item, one, plain, plain_word, simple, sum, word,
 };
+use sh_syntax::{CommandKind, Item, Joint, Pipeline, Script};
 use span_text::{BinOp, Boxed, Expr, List, Memory, Text, UnOp};
 use std::alloc::Global;
 use std::test::Fail;
-use sh_syntax::{CommandKind, Item, Joint, Pipeline, Script};
 
 const MANY: usize = 100_000;
 

@@ -4,10 +4,10 @@ use super::shows;
 use crate::tests::trees::{
     binary, calls, digits, does, named, nothing, one, param, part, plain, says, sum, two, word,
 };
+use sh_syntax::{CommandKind, FillTest, ParamOp, Part, PartKind, Script};
 use span_text::{BinOp, Expr, List, Memory};
 use std::alloc::Global;
 use std::test::Fail;
-use sh_syntax::{CommandKind, FillTest, ParamOp, Part, PartKind, Script};
 
 /// `( .. )` in so many levels.
 fn subshells(alloc: Global, levels: usize) -> Result<Script, Memory> {

@@ -1,9 +1,9 @@
 use super::shows;
 use crate::tests::trees::{binary, counts, named, one, param, plain_word, sum, two, word};
+use sh_syntax::{Param, ParamOp, Word};
 use span_text::{BinOp, Boxed, Expr, List, Memory, StepOp, Text, UnOp};
 use std::alloc::Global;
 use std::test::Fail;
-use sh_syntax::{Param, ParamOp, Word};
 
 fn variable(alloc: Global, text: &[u8]) -> Result<Expr, Memory> {
     Ok(Expr::Name(Text::copy(alloc, text)?))
@@ -28,7 +28,12 @@ fn constants_and_variables(rt: HostRuntime) -> Result<(), Fail> {
 #[test]
 fn operators_that_sh_has(rt: HostRuntime) -> Result<(), Fail> {
     let alloc = rt.alloc();
-    let shift = binary(alloc, BinOp::ShiftLeft, Expr::Constant(1), Expr::Constant(2))?;
+    let shift = binary(
+        alloc,
+        BinOp::ShiftLeft,
+        Expr::Constant(1),
+        Expr::Constant(2),
+    )?;
     shows(&rt, sum(alloc, shift)?, true)?;
     let power = binary(alloc, BinOp::Power, Expr::Constant(1), Expr::Constant(2))?;
     shows(&rt, sum(alloc, power)?, false)?;
@@ -38,7 +43,11 @@ fn operators_that_sh_has(rt: HostRuntime) -> Result<(), Fail> {
     let a = Boxed::new(alloc, variable(alloc, b"a")?)?;
     shows(&rt, sum(alloc, Expr::Step(StepOp::PostAdd, a))?, false)?;
     let a = Boxed::new(alloc, Expr::Constant(1))?;
-    shows(&rt, sum(alloc, Expr::Member(Text::copy(alloc, b"a")?, a))?, false)?;
+    shows(
+        &rt,
+        sum(alloc, Expr::Member(Text::copy(alloc, b"a")?, a))?,
+        false,
+    )?;
     let a = Boxed::new(alloc, Expr::Constant(1))?;
     shows(&rt, sum(alloc, Expr::Unary(UnOp::Not, a))?, true)
 }
@@ -61,7 +70,11 @@ fn assignments(rt: HostRuntime) -> Result<(), Fail> {
     let constant = assignment(alloc, Expr::Constant(1), None)?;
     shows(&rt, sum(alloc, constant)?, false)?;
     let of_operand = assignment(alloc, Expr::Operand(0), None)?;
-    shows(&rt, counts(alloc, of_operand, one(alloc, operand(alloc)?)?)?, false)
+    shows(
+        &rt,
+        counts(alloc, of_operand, one(alloc, operand(alloc)?)?)?,
+        false,
+    )
 }
 
 #[test]
@@ -74,7 +87,11 @@ fn operands_are_numbered_in_their_order(rt: HostRuntime) -> Result<(), Fail> {
     let words = two(alloc, operand(alloc)?, operand(alloc)?)?;
     shows(&rt, counts(alloc, turned, words)?, false)?;
     let twice = binary(alloc, BinOp::Add, Expr::Operand(0), Expr::Operand(0))?;
-    shows(&rt, counts(alloc, twice, one(alloc, operand(alloc)?)?)?, false)?;
+    shows(
+        &rt,
+        counts(alloc, twice, one(alloc, operand(alloc)?)?)?,
+        false,
+    )?;
     let few = binary(alloc, BinOp::Add, Expr::Operand(0), Expr::Constant(1))?;
     let words = two(alloc, operand(alloc)?, operand(alloc)?)?;
     shows(&rt, counts(alloc, few, words)?, false)?;

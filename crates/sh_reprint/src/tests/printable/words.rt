@@ -2,11 +2,11 @@ use super::shows;
 use crate::tests::trees::{
     calls, digits, double, exact, named, one, param, part, plain, says, two, word,
 };
+use sh_syntax::{FillTest, Param, ParamOp, PartKind};
 use span_text::{List, Text};
 use std::alloc::Global;
 use std::process::Abort;
 use std::test::Fail;
-use sh_syntax::{FillTest, Param, ParamOp, PartKind};
 
 /// Each text as a plain word behind a command's name.
 fn plain_words(rt: &impl Abort, alloc: Global, texts: &[&[u8]], wanted: bool) -> Result<(), Fail> {
@@ -44,7 +44,18 @@ fn escapes(rt: &impl Abort, alloc: Global, texts: &[&[u8]], wanted: bool) -> Res
 #[test]
 fn bytes_that_stand_for_themselves(rt: HostRuntime) -> Result<(), Fail> {
     let texts: [&[u8]; 12] = [
-        b"b", b"b#", b"if", b"~b", b"b~", b"$", b"$%", b"=", b"x=y", b"{", b"}", b"\xc3\xa9",
+        b"b",
+        b"b#",
+        b"if",
+        b"~b",
+        b"b~",
+        b"$",
+        b"$%",
+        b"=",
+        b"x=y",
+        b"{",
+        b"}",
+        b"\xc3\xa9",
     ];
     plain_words(&rt, rt.alloc(), &texts, true)
 }
@@ -52,8 +63,8 @@ fn bytes_that_stand_for_themselves(rt: HostRuntime) -> Result<(), Fail> {
 #[test]
 fn bytes_that_do_not(rt: HostRuntime) -> Result<(), Fail> {
     let texts: [&[u8]; 16] = [
-        b"", b"b c", b"b'", b"\"", b"#b", b"~", b"~/b", b"$b", b"$(", b"b\\", b"b\\c", b"`",
-        b"\0", b"b\n", b";", b"b&",
+        b"", b"b c", b"b'", b"\"", b"#b", b"~", b"~/b", b"$b", b"$(", b"b\\", b"b\\c", b"`", b"\0",
+        b"b\n", b";", b"b&",
     ];
     plain_words(&rt, rt.alloc(), &texts, false)
 }
@@ -109,7 +120,11 @@ fn parts_beside_one_another(rt: HostRuntime) -> Result<(), Fail> {
     shows(&rt, says(alloc, quoted)?, true)?;
     let quotes = two(alloc, exact(alloc, b"b")?, exact(alloc, b"c")?)?;
     shows(&rt, says(alloc, quotes)?, true)?;
-    let dollar = two(alloc, plain(alloc, b"b$")?, param(Param::Count, ParamOp::Plain))?;
+    let dollar = two(
+        alloc,
+        plain(alloc, b"b$")?,
+        param(Param::Count, ParamOp::Plain),
+    )?;
     shows(&rt, says(alloc, dollar)?, false)?;
     let bare = two(alloc, plain(alloc, b"b$")?, exact(alloc, b"c")?)?;
     shows(&rt, says(alloc, bare)?, true)
@@ -155,21 +170,37 @@ fn filled(alloc: Global, test: FillTest, text: &[u8]) -> Result<ParamOp, Fail> {
 fn operators_of_parameters(rt: HostRuntime) -> Result<(), Fail> {
     let alloc = rt.alloc();
     let dash = filled(alloc, FillTest::Default, b"w x")?;
-    shows(&rt, says(alloc, one(alloc, param(Param::Count, dash))?)?, true)?;
+    shows(
+        &rt,
+        says(alloc, one(alloc, param(Param::Count, dash))?)?,
+        true,
+    )?;
     let brace = filled(alloc, FillTest::Alternate, b"w}")?;
-    shows(&rt, says(alloc, one(alloc, param(Param::Count, brace))?)?, false)?;
+    shows(
+        &rt,
+        says(alloc, one(alloc, param(Param::Count, brace))?)?,
+        false,
+    )?;
     let empty = ParamOp::Fill {
         test: FillTest::Default,
         colon: false,
         word: word(List::new(alloc)),
     };
-    shows(&rt, says(alloc, one(alloc, param(Param::Count, empty))?)?, false)?;
+    shows(
+        &rt,
+        says(alloc, one(alloc, param(Param::Count, empty))?)?,
+        false,
+    )?;
     let colon = ParamOp::Fill {
         test: FillTest::Default,
         colon: true,
         word: word(List::new(alloc)),
     };
-    shows(&rt, says(alloc, one(alloc, param(Param::Count, colon))?)?, true)
+    shows(
+        &rt,
+        says(alloc, one(alloc, param(Param::Count, colon))?)?,
+        true,
+    )
 }
 
 /// `${p%w}` and its like.
@@ -185,17 +216,33 @@ fn trimmed(alloc: Global, suffix: bool, longest: bool, text: &[u8]) -> Result<Pa
 fn patterns_that_would_change_the_mark(rt: HostRuntime) -> Result<(), Fail> {
     let alloc = rt.alloc();
     let same = trimmed(alloc, true, false, b"%b")?;
-    shows(&rt, says(alloc, one(alloc, param(Param::At, same))?)?, false)?;
+    shows(
+        &rt,
+        says(alloc, one(alloc, param(Param::At, same))?)?,
+        false,
+    )?;
     let other = trimmed(alloc, true, false, b"#b")?;
-    shows(&rt, says(alloc, one(alloc, param(Param::At, other))?)?, true)?;
+    shows(
+        &rt,
+        says(alloc, one(alloc, param(Param::At, other))?)?,
+        true,
+    )?;
     let longest = trimmed(alloc, true, true, b"%b")?;
-    shows(&rt, says(alloc, one(alloc, param(Param::At, longest))?)?, true)?;
+    shows(
+        &rt,
+        says(alloc, one(alloc, param(Param::At, longest))?)?,
+        true,
+    )?;
     let length = ParamOp::Trim {
         suffix: false,
         longest: false,
         pattern: word(List::new(alloc)),
     };
-    shows(&rt, says(alloc, one(alloc, param(Param::Count, length))?)?, false)
+    shows(
+        &rt,
+        says(alloc, one(alloc, param(Param::Count, length))?)?,
+        false,
+    )
 }
 
 #[test]
