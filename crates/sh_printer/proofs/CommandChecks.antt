@@ -1,22 +1,22 @@
 -- Commands and lists that are checked: the first one and those behind it.
-use Rattle.std.proofs.Common.{◌≡◌, ℕ, suc, ◌+◌, ◌≤◌, Bool, true, false, not, ◌&&◌, ◌||◌, List, [], ◌∷◌, drop, length, refl, sym, ap, ◌∙◌, arith}
+use Rattle.std.proofs.Common.{◌≡◌, ℕ, ◌+◌, ◌≤◌, Bool, true, false, ◌&&◌, List, [], ◌∷◌, drop, length, refl, sym, ap, ◌∙◌, arith}
 use Rattle.std.specs.Prelude.{map}
 use Rattle.std.proofs.Math.Bool.{and_assoc}
 use Rattle.sh_grammar.specs.Shape as shape
 use Rattle.sh_printer.specs.Checks.{item_fits, some_fit}
 use Rattle.sh_printer.specs.Pieces.{branch_views, link_views}
-use Rattle.sh_printer.specs.Weights.{items_weight, pipeline_weight, script_weight, stages_weight, words_weight}
-use Rattle.sh_printing.specs.Printable.{branches_fit, command_fits, has_branch, has_chain, has_redirect, has_stage, items_fit, kind_fits, links_fit, list_fits, pipeline_fits, redirects_fit, stages_fit}
+use Rattle.sh_printer.specs.Weights.{items_weight, script_weight, words_weight}
+use Rattle.sh_printing.specs.Printable.{branches_fit, command_fits, has_branch, has_chain, has_redirect, has_stage, items_fit, links_fit, list_fits, pipeline_fits, stages_fit}
 use Rattle.sh_syntax.specs.declared.tree.AndOr.{out-AndOr}
 use Rattle.sh_syntax.specs.declared.tree.CaseItem.{CaseItem}
-use Rattle.sh_syntax.specs.declared.tree.Command.{Command, out-Command}
+use Rattle.sh_syntax.specs.declared.tree.Command.{Command}
 use Rattle.sh_syntax.specs.declared.tree.Item.{Item, out-Item}
 use Rattle.sh_syntax.specs.declared.tree.Joint.{Joint}
 use Rattle.sh_syntax.specs.declared.tree.Joint.TheVariants.{And, Or}
-use Rattle.sh_syntax.specs.declared.tree.Pipeline.{Pipeline, out-Pipeline}
+use Rattle.sh_syntax.specs.declared.tree.Pipeline.{Pipeline}
 use Rattle.sh_syntax.specs.declared.tree.Redirect.{Redirect}
 use Rattle.sh_syntax.specs.declared.tree.Script.{Script}
-use Rattle.sh_syntax.specs.View.{view, view_case_item, view_command, view_item, view_kind, view_pipeline, view_redirect, branches_of, case_items_of, items_of, link_of, links_of, redirects_of, stages_of}
+use Rattle.sh_syntax.specs.View.{view, view_case_item, view_command, view_item, view_pipeline, view_redirect, branches_of, case_items_of, items_of, link_of, links_of, redirects_of, stages_of}
 use Rattle.sh_syntax.proofs.Views.{chain_is, item_is}
 
 pub some_redirects : (rs : List Redirect) → 1 ≤ length rs → true ≡ has_redirect (redirects_of (map view_redirect rs))

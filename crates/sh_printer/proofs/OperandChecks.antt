@@ -1,7 +1,6 @@
 -- The operands of an expression that is checked, by their numbers.
 use Rattle.std.proofs.Common.{◌≡◌, ℕ, zero, suc, ◌+◌, ◌≤◌, ◌<◌, Bool, true, false, ◌&&◌, ◌==◌, List, [], ◌∷◌, length, get_or, refl, sym, ap, ◌∙◌, arith}
 use Rattle.std.specs.Prelude.{map, Option, Some, None, if◌then◌else◌}
-use Rattle.std.proofs.Math.Bool.{and-false}
 use Rattle.sh_printer.specs.SumChecks.{Check, operand_counts}
 use Rattle.sh_printing.specs.Printable.{operand_checks, operand_fits}
 use Rattle.sh_printing.specs.Spellable.{nth_check}

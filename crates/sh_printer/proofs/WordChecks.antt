@@ -1,5 +1,5 @@
 -- Words, assignments and redirections that are checked: the first one and those behind it.
-use Rattle.std.proofs.Common.{◌≡◌, ℕ, suc, ◌+◌, ◌<◌, ◌≤◌, Bool, true, false, not, ◌&&◌, ◌||◌, List, [], ◌∷◌, drop, length, refl, sym, ap, ◌∙◌, arith}
+use Rattle.std.proofs.Common.{◌≡◌, ℕ, suc, ◌+◌, ◌<◌, ◌≤◌, Bool, true, false, not, ◌&&◌, List, ◌∷◌, drop, refl, sym, ap, ◌∙◌, arith}
 use Rattle.std.specs.Prelude.{map, nat_lt, Option}
 use Rattle.std.proofs.lemmas.Bool.{ltb-true}
 use Rattle.span_text.specs.Names.{is_name}
@@ -14,7 +14,7 @@ use Rattle.sh_syntax.specs.declared.tree.Assign.{Assign}
 use Rattle.sh_syntax.specs.declared.tree.Part.{Part}
 use Rattle.sh_syntax.specs.declared.tree.Redirect.{Redirect}
 use Rattle.sh_syntax.specs.declared.tree.Word.{Word, out-Word}
-use Rattle.sh_syntax.specs.View.{Aimed, view_assign, view_part, view_redirect, view_word, assigns_of, parts_of, redirects_of, words_of}
+use Rattle.sh_syntax.specs.View.{view_assign, view_part, view_redirect, view_word, assigns_of, parts_of, redirects_of, words_of}
 use Rattle.sh_syntax.proofs.Views.{word_is}
 
 -- the same pieces under another spelling of what holds, and under a greater weight

@@ -1,6 +1,5 @@
 -- What a piece that is checked says, and that a node's pieces say what it does.
-use Rattle.std.specs.Prelude.{◌≡◌, ℕ, ◌+◌, ◌*◌, ◌<◌, Bool, true, false, ◌&&◌, not, List, map}
-use Rattle.span_text.specs.declared.expr.Expr.{Expr}
+use Rattle.std.specs.Prelude.{◌≡◌, ℕ, ◌+◌, ◌*◌, ◌<◌, Bool, true, ◌&&◌, not, List, map}
 use Rattle.span_text.specs.Expression.{nodes}
 use Rattle.sh_grammar.specs.Bytes.{in_body, in_word}
 use Rattle.sh_grammar.specs.Shape as shape

@@ -1,5 +1,5 @@
 -- Parts by what they begin and end with.
-use Rattle.std.specs.Prelude.{ℕ, Bool, true, false}
+use Rattle.std.specs.Prelude.{ℕ, Bool, false}
 use Rattle.sh_grammar.specs.Shape as shape
 use Rattle.sh_printing.specs.Spellable.{begins_with, ends_with}
 

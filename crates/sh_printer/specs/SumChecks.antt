@@ -1,7 +1,6 @@
 -- What an expression that is checked says: how many operands there are with its own, behind those before it, if it fits.
-use Rattle.std.specs.Prelude.{◌≡◌, ℕ, zero, suc, ◌+◌, ◌-◌, ◌*◌, ◌/◌, ◌<◌, nat_le, ℤ, pos, negsuc, Bool, true, false, ◌&&◌, ◌==◌, List, length, map, Option, Some, None, if◌then◌else◌}
+use Rattle.std.specs.Prelude.{◌≡◌, ℕ, zero, suc, ◌+◌, ◌-◌, ◌*◌, ◌/◌, ◌<◌, nat_le, ℤ, pos, negsuc, Bool, true, false, ◌&&◌, ◌==◌, map, Option, Some, None, if◌then◌else◌}
 use Rattle.span_text.specs.Names.{is_name}
-use Rattle.span_text.specs.declared.expr.BinOp.{BinOp}
 use Rattle.span_text.specs.declared.expr.Expr.{Expr}
 use Rattle.span_text.specs.declared.expr.Expr.TheOpen.{Expr-F}
 use Rattle.span_text.specs.declared.expr.Expr.TheOpen as open_expr
@@ -11,7 +10,6 @@ use Rattle.span_text.specs.Expression.{nodes}
 use Rattle.span_text.specs.Expressions.{level}
 use Rattle.sh_grammar.specs.Expansions.{◌>>=◌}
 use Rattle.sh_printer.specs.Chains.{down, next_down}
-use Rattle.sh_printer.specs.Weights.{words_weight}
 use Rattle.sh_printer.specs.declared.checking.checks.Given.{Given}
 use Rattle.sh_printer.specs.declared.checking.checks.SumCheck.{SumCheck}
 use Rattle.sh_printer.specs.declared.checking.checks.SumCheck.TheVariants as sums

@@ -1,4 +1,4 @@
-use Rattle.std.proofs.Common.{◌≡◌, length, false}
+use Rattle.std.proofs.Common.{◌≡◌, length}
 use Rattle.sh_grammar.specs.Bytes as bytes_of
 use Rattle.sh_printer.proofs.checking.bytes.clear.Given as goal
 

@@ -1,4 +1,4 @@
-use Rattle.std.proofs.Common.{◌≡◌, length, false}
+use Rattle.std.proofs.Common.{◌≡◌, length}
 use Rattle.sh_printing.specs.Spellable.{ends_with}
 use Rattle.sh_printer.proofs.checking.bytes.ends_with.Given as goal
 

@@ -1,4 +1,4 @@
-use Rattle.std.proofs.Common.{◌≡◌, length, false}
+use Rattle.std.proofs.Common.{◌≡◌, length}
 use Rattle.sh_printer.specs.Codes.{view_context}
 use Rattle.sh_printing.specs.Spellable.{is_literal_text}
 use Rattle.sh_printer.proofs.checking.bytes.is_literal_text.Given as goal

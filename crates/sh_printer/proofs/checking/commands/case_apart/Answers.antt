@@ -1,7 +1,6 @@
-use Rattle.std.proofs.Common.{◌≡◌, ℕ, suc, ◌<◌, Bool, true, false, not, ◌&&◌, refl, sym, ap, ◌∙◌, arith}
+use Rattle.std.proofs.Common.{ℕ, true, arith}
 use Rattle.sh_printer.specs.Checks.{command_check_weight, command_holds, word_check_weight, word_holds}
-use Rattle.std.specs.Prelude.{nat_lt, map, option_map}
-use Rattle.sh_grammar.specs.Steps.{limit}
+use Rattle.std.specs.Prelude.{map}
 use Rattle.sh_printer.proofs.WordChecks.{under2}
 use Rattle.sh_syntax.proofs.Views.{word_is}
 use Rattle.sh_printing.specs.Printable.{items_fit, word_fits}

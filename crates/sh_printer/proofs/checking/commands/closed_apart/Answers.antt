@@ -1,6 +1,6 @@
-use Rattle.std.proofs.Common.{◌≡◌, ℕ, suc, ◌<◌, Bool, true, false, not, ◌&&◌, refl, sym, ap, ◌∙◌, arith}
+use Rattle.std.proofs.Common.{ℕ, suc, sym, ◌∙◌, arith}
 use Rattle.sh_printer.specs.Checks.{command_check_weight, command_holds, word_check_weight, word_holds}
-use Rattle.std.specs.Prelude.{nat_lt, map, option_map}
+use Rattle.std.specs.Prelude.{nat_lt}
 use Rattle.sh_grammar.specs.Steps.{limit}
 use Rattle.sh_printer.proofs.WordChecks.{under}
 use Rattle.std.proofs.Math.Bool.{and_assoc}

@@ -1,4 +1,3 @@
-use Rattle.std.proofs.Common.{◌≡◌, ℕ, suc, ◌<◌, Bool, true, false, not, ◌&&◌, refl, sym, ap, ◌∙◌, arith}
 use Rattle.sh_syntax.proofs.Views.{command_is}
 use Rattle.sh_printer.proofs.checking.commands.has_compound.Goals as goal
 

@@ -1,4 +1,4 @@
-use Rattle.std.proofs.Common.{◌≡◌, length, false}
+use Rattle.std.proofs.Common.{◌≡◌, length}
 use Rattle.sh_printing.specs.Spellable.{equals_behind}
 use Rattle.sh_printer.proofs.checking.names.equals_behind.Given as goal
 

@@ -1,4 +1,4 @@
-use Rattle.std.proofs.Common.{◌≡◌, ℕ, suc, ◌<◌, Bool, true, false, not, ◌&&◌, refl, sym, ap, ◌∙◌, arith}
+use Rattle.std.proofs.Common.{◌∙◌}
 use Rattle.sh_printer.proofs.PartChecks.{last_ends}
 use Rattle.sh_printer.proofs.checking.parts.ends_line.Goals as goal
 

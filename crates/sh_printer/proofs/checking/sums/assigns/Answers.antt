@@ -1,4 +1,3 @@
-use Rattle.std.proofs.Common.{◌≡◌, ℕ, suc, ◌<◌, Bool, true, false, not, ◌&&◌, refl, sym, ap, ◌∙◌, arith}
 use Rattle.sh_printer.proofs.checking.sums.assigns.Goals as goal
 
 pub returns-in-Some : goal.returns-in-Some

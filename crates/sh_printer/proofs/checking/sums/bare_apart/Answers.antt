@@ -1,4 +1,4 @@
-use Rattle.std.proofs.Common.{◌≡◌, ℕ, suc, ◌<◌, Bool, true, false, not, ◌&&◌, refl, sym, ap, ◌∙◌, arith}
+use Rattle.std.proofs.Common.{arith}
 use Rattle.sh_printer.proofs.Chains.{down_less}
 use Rattle.sh_printer.proofs.SumFits.{chain_halves}
 use Rattle.sh_printer.proofs.checking.sums.bare_apart.Goals as goal

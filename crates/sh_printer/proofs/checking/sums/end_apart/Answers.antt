@@ -1,4 +1,4 @@
-use Rattle.std.proofs.Common.{◌≡◌, ℕ, suc, ◌<◌, Bool, true, false, not, ◌&&◌, refl, sym, ap, ◌∙◌, arith}
+use Rattle.std.proofs.Common.{Bool, sym, ap, ◌∙◌, arith}
 use Rattle.span_text.specs.declared.expr.Expr.TheOpen as layer
 use Rattle.span_text.specs.declared.expr.Expr.TheVariants as expr
 use Rattle.sh_printer.proofs.Chains.{nodes_is, some_nodes}

@@ -1,6 +1,5 @@
-use Rattle.std.proofs.Common.{◌≡◌, ℕ, suc, ◌<◌, Bool, true, false, not, ◌&&◌, refl, sym, ap, ◌∙◌, arith}
+use Rattle.std.proofs.Common.{◌≡◌, suc, sym, ◌∙◌, arith}
 use Rattle.std.proofs.Common.{◌+◌}
-use Rattle.std.specs.Prelude.{nat_le, nat_lt, ◌||◌, ◌==◌}
 use Rattle.std.proofs.lemmas.Bool.{lt-ltb, le-ltb}
 use Rattle.sh_grammar.specs.Steps.{limit}
 use Rattle.sh_printer.proofs.SumFits.{fits_where, fits_closed, fits_nowhere}

@@ -1,4 +1,4 @@
-use Rattle.std.proofs.Common.{◌≡◌, ℕ, suc, ◌<◌, Bool, true, false, not, ◌&&◌, refl, sym, ap, ◌∙◌, arith}
+use Rattle.std.proofs.Common.{refl, arith}
 use Rattle.sh_printer.specs.SumChecks.{fits, last_fits, sum_counts}
 use Rattle.sh_printer.proofs.SumFits.{bind_same}
 use Rattle.sh_printer.proofs.checking.sums.infix_apart.Goals as goal

@@ -1,6 +1,5 @@
-use Rattle.std.proofs.Common.{◌≡◌, ℕ, suc, ◌<◌, Bool, true, false, not, ◌&&◌, refl, sym, ap, ◌∙◌, arith}
-use Rattle.std.proofs.Common.{◌-◌, ◌/◌}
-use Rattle.sh_printer.specs.Chains.{down}
+use Rattle.std.proofs.Common.{sym, ◌∙◌, arith}
+use Rattle.std.proofs.Common.{◌/◌}
 use Rattle.sh_printer.proofs.Chains.{down_within, some_nodes}
 use Rattle.sh_printer.proofs.SumFits.{counting, halves_last, halves_none, halves_one, halves_split}
 use Rattle.sh_printer.proofs.checking.sums.links_apart.Goals as goal

@@ -1,6 +1,5 @@
-use Rattle.std.proofs.Common.{◌≡◌, ℕ, suc, ◌<◌, Bool, true, false, not, ◌&&◌, refl, sym, ap, ◌∙◌, arith}
+use Rattle.std.proofs.Common.{Bool, sym, ap, ◌∙◌}
 use Rattle.sh_printer.specs.SumChecks.{power_fits}
-use Rattle.sh_printing.specs.Spellable.{is_power}
 use Rattle.std.proofs.Common.{◌+◌}
 use Rattle.span_text.specs.declared.sign.Infix.TheVariants.{Plain}
 use Rattle.span_text.specs.Expressions.{level}

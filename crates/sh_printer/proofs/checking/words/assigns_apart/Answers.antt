@@ -1,10 +1,9 @@
-use Rattle.std.proofs.Common.{◌≡◌, Bool, true, false, [], refl, ap, arith}
+use Rattle.std.proofs.Common.{◌≡◌, true, [], refl, ap, arith}
 use Rattle.sh_printer.specs.Checks.{command_check_weight, command_holds, word_check_weight, word_holds}
 use Rattle.sh_printer.proofs.Firsts.{none, first}
 use Rattle.sh_printer.proofs.WordChecks.{splitting, assigns_split}
 use Rattle.sh_printer.proofs.Firsts.{assigns_weigh}
 use Rattle.sh_syntax.proofs.Views.{assign_is}
-use Rattle.sh_syntax.specs.View.{view_assign}
 use Rattle.sh_grammar.specs.Shape as shape
 use Rattle.std.proofs.Common.{List, ℕ}
 use Rattle.sh_printer.proofs.checking.words.assigns_apart.Goals as goal

@@ -1,8 +1,6 @@
-use Rattle.std.proofs.Common.{◌≡◌, ℕ, suc, ◌<◌, Bool, true, false, not, ◌&&◌, refl, sym, ap, ◌∙◌, arith}
+use Rattle.std.proofs.Common.{true, refl, arith}
 use Rattle.sh_printer.specs.Checks.{command_check_weight, command_holds, word_check_weight, word_holds}
 use Rattle.sh_printer.proofs.WordChecks.{splitting}
-use Rattle.sh_printer.specs.Weights.{parts_weight}
-use Rattle.sh_printing.specs.Printable.{word_fits}
 use Rattle.sh_syntax.proofs.Views.{word_is}
 use Rattle.sh_printer.proofs.checking.words.optional_apart.Goals as goal
 

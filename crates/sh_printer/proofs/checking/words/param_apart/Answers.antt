@@ -1,15 +1,14 @@
-use Rattle.std.proofs.Common.{◌≡◌, ℕ, suc, ◌<◌, Bool, true, false, not, ◌&&◌, refl, sym, ap, ◌∙◌, arith}
+use Rattle.std.proofs.Common.{suc, Bool, not, ◌&&◌, sym, ap, arith}
 use Rattle.sh_printer.specs.Checks.{command_check_weight, command_holds, word_check_weight, word_holds}
 use Rattle.sh_printer.proofs.WordChecks.{splitting}
 use Rattle.sh_grammar.specs.Steps.{limit}
-use Rattle.std.specs.Prelude.{nat_lt, map}
+use Rattle.std.specs.Prelude.{nat_lt}
 use Rattle.std.proofs.Math.Bool.{and_assoc}
-use Rattle.sh_syntax.specs.declared.tree.Word.{out-Word}
 use Rattle.sh_printer.specs.Codes.{view_context}
 use Rattle.sh_grammar.specs.Bytes.{fill_context, trim_context}
 use Rattle.sh_printing.specs.Printable.{changes_mark, is_length, parts_fit}
 use Rattle.sh_printing.specs.Spellable.{param_fits}
-use Rattle.sh_syntax.specs.View.{view_param, view_test, view_word, view_part, parts_of}
+use Rattle.sh_syntax.specs.View.{view_param, view_test, view_word}
 use Rattle.sh_syntax.proofs.Views.{as_is_is, length_is, fill_is, trim_is, word_is}
 use Rattle.sh_printer.proofs.checking.words.param_apart.Goals as goal
 

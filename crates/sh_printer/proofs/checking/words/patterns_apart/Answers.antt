@@ -1,4 +1,4 @@
-use Rattle.std.proofs.Common.{◌≡◌, Bool, true, false, [], refl, ap, arith}
+use Rattle.std.proofs.Common.{◌≡◌, true, [], refl, ap, arith}
 use Rattle.sh_printer.specs.Checks.{command_check_weight, command_holds, word_check_weight, word_holds}
 use Rattle.sh_printer.proofs.Firsts.{none, first}
 use Rattle.sh_printer.proofs.WordChecks.{splitting, patterns_split}
