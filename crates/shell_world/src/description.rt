@@ -154,19 +154,29 @@ impl Fds {
         }
     }
 
-    /// The description that a descriptor below 10 stands for.
-    pub fn get(&self, n: u8) -> Option<Desc>
-        requires { n < 10 }
-        ensures { index_of result ≡ index_at (nth n self.now) }
+    /// The same descriptors, open for the same descriptions.
+    pub fn copy(&self) -> Fds
+        ensures { result ≡ self.now }
     {
-        self.slots[n as usize]
+        Fds { slots: self.slots }
     }
 
-    /// Opens a descriptor below 10 for a description, or closes it.
+    /// The description that a descriptor stands for. From 10 on it is closed.
+    pub fn get(&self, n: u8) -> Option<Desc>
+        ensures { index_of result ≡ index_at (nth n self.now) }
+    {
+        match self.slots.get(n as usize) {
+            None => None,
+            Some(slot) => *slot,
+        }
+    }
+
+    /// Opens a descriptor below 10 for a description, or closes it. From 10 on nothing changes.
     pub fn set(&mut self, n: u8, to: Option<Desc>)
-        requires { n < 10 }
         ensures { self.new ≡ with_nth n (index_of to) self.old }
     {
-        self.slots[n as usize] = to;
+        if self.slots.get(n as usize).is_some() {
+            self.slots[n as usize] = to;
+        }
     }
 }

@@ -72,6 +72,15 @@ impl<V> TextMap<V> {
         place < self.entries.len() && key.cmp(&self.entries[place].0.bytes()).is_eq()
     }
 
+    /// The map of entries that another map has, in their order there. It takes no memory.
+    pub fn from_list(entries: List<(Text, V)>) -> TextMap<V>
+        ensures { result ≡ entries }
+    {
+        TextMap {
+            entries: entries.into_vec(),
+        }
+    }
+
     /// The entries in their order. It takes no memory.
     pub fn into_list(self) -> List<(Text, V)>
         ensures { result ≡ self }

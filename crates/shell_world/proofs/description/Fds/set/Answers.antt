@@ -4,5 +4,5 @@ use Rattle.shell_world.specs.Running.{index_of}
 use Rattle.shell_world.proofs.LineCuts.{set_mapped}
 use Rattle.shell_world.proofs.description.Fds.set.Goals as goal
 
-pub returns : goal.returns
-returns c = set_mapped index_of c.self.inside.slots c.args.n c.args.to ∙ ap (with_nth c.args.n (index_of c.args.to)) c.self.view_is
+pub returns-then-is_some : goal.returns-then-is_some
+returns-then-is_some c = set_mapped index_of c.self.inside.slots c.args.n c.args.to ∙ ap (with_nth c.args.n (index_of c.args.to)) c.self.view_is
