@@ -1,2 +1,6 @@
 mod PartViews
 mod Counting
+mod Exports
+mod Loops
+mod ValueViews
+mod Gathering

@@ -11,8 +11,7 @@ use Rattle.sh_syntax.specs.declared.tree.PartKind.TheVariants as part'
 use Rattle.sh_syntax.specs.declared.tree.Script.{Script}
 use Rattle.sh_syntax.specs.declared.tree.Word.{Word, out-Word}
 use Rattle.sh_grammar.specs.Shape as shape
-use Rattle.sh_meaning.specs.Lists.{Seen, seen_in, seen_in_op}
-use Rattle.sh_syntax.specs.View.{view, view_arith, view_op, view_param, view_part, view_part_kind, view_test, view_word, parts_of}
+use Rattle.sh_syntax.specs.View.{view, view_arith, view_op, view_param, view_part, view_part_kind, view_test, parts_of}
 use Rattle.sh_syntax.proofs.Views.{part_is, plain_is, exact_is, double_is, tilde_is, param_is, subst_is, arith_part_is, fill_is, trim_is, word_is}
 
 pub plain_view : (p : Part) (text : List ℕ) → p.kind ≡ part'.Plain text → view_part p ≡ shape.plain text

@@ -1,10 +1,10 @@
-use Rattle.std.proofs.Common.{refl, sym, ap, ◌∙◌, true}
+use Rattle.std.proofs.Common.{◌∙◌, true}
 use Rattle.std.specs.Prelude.{map}
 use Rattle.sh_meaning.specs.Lists.{quote_seen, has_no_part, seen_in, seen_in_op, list_seen}
 use Rattle.sh_syntax.specs.View.{view_part, view_op, view_param, parts_of}
 use Rattle.sh_syntax.proofs.Views.{as_is_is, length_is}
 use Rattle.sh_checks.proofs.PartViews.{plain_view, exact_view, double_view, tilde_view, param_view, subst_view, arith_view, fill_view, trim_view}
-use Rattle.sh_checks.proofs.Counting.{both_none, both_seen, part_more}
+use Rattle.sh_checks.proofs.Counting.{both_seen, part_more}
 use Rattle.sh_checks.proofs.lists.+seen.Goals as goal
 
 pub seen_in_op-returns-in-Fill : goal.seen_in_op-returns-in-Fill
