@@ -18,4 +18,7 @@ pub mod Picked
 pub mod Levels
 pub mod Turning
 pub mod Stack
+pub mod Guessed
+pub mod Front
+pub mod AtOnce
 pub mod Redirections

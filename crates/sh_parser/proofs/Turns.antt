@@ -3,11 +3,13 @@ use Rattle.std.proofs.Common.{◌≡◌, ◌==◌, ℕ, ◌-◌, ◌<◌, ◌≤
 use Rattle.std.specs.Prelude.{Result, Ok, Err}
 use Rattle.std.proofs.lemmas.Bool.Decides.{nat_tests}
 use Rattle.text_grammar.specs.Grammar.{rule}
-use Rattle.text_grammar.specs.Values.{vals}
+use Rattle.text_grammar.specs.Values.{kids, vals}
 use Rattle.text_grammar.specs.Later.{vals_twice}
 use Rattle.text_grammar.specs.Place.{goes_on, front, front_in}
 use Rattle.text_grammar.specs.Answers.{FailsAs}
 use Rattle.text_grammar.proofs.Tools.{some_is}
+use Rattle.text_grammar.proofs.Rules.{vals_sound, vals_complete}
+use Rattle.text_grammar.proofs.Twice.{at_allowed}
 use Rattle.sh_grammar.specs.Shape as shape
 use Rattle.sh_grammar.specs.Bytes.{Text, gap, idle}
 use Rattle.sh_grammar.specs.Expansions.{◌>>=◌}
@@ -17,7 +19,8 @@ use Rattle.sh_grammar.specs.Steps.{is_empty}
 use Rattle.sh_grammar.specs.Spelling.{sh_with, Reads, IsErrorAt}
 use Rattle.sh_grammar.specs.Pieces.{next_piece, nodes_from, nodes_in, stop_from}
 use Rattle.sh_grammar.proofs.Lengths.{idle_fits}
-use Rattle.sh_grammar.proofs.Pieces.{next_less}
+use Rattle.sh_grammar.proofs.Known.{later}
+use Rattle.sh_grammar.proofs.Pieces.{is_piece, next_less}
 use Rattle.sh_grammar.proofs.Whole.{reads_sound, reads_none, nodes_end, nodes_none, nodes_more, stop_more, stop_none}
 use Rattle.sh_grammar.proofs.Stops.{stops_at}
 use Rattle.sh_parser.specs.declared.fault.Stop.{Stop}
@@ -49,6 +52,14 @@ next_plain bytes k m none e =
     empty : (xs : List Text) → length xs ≡ 0 → [] ≡ xs
     empty [] h = refl
     empty (x ∷ xs) h = absurd (omega arith)
+
+-- the bodies were guessed as they were then found
+pub next_guessed : (ds : List Text) (bytes : Text) (k : List Node) (m : State) → vals (sh_with ds) (rule piece) (start_at 0 bytes) ≡ Some (k, m) → m.found ≡ ds → next_at bytes ≡ Some (k, m.bytes)
+next_guessed ds bytes k m e f =
+    let t = vals_sound (sh_with ds) (rule piece) (start_at 0 bytes) (k, m) e in
+    let u = at_allowed (sh_with ds) (sh_with []) (later.allows ds) t.0 (rule piece) (start_at 0 bytes) m t.1 in
+    let first = vals_complete (sh_with []) (later.ends []) u.0 (rule piece) (start_at 0 bytes) m (is_piece piece refl []).0 u.1 in
+    next_again bytes (kids (sh_with []) u.0) m first ∙ rw (f, e) refl
 
 -- what is read, seen without its state but for the bytes
 pub gives_seen : {X : Type 0} (v : X → List Node × State) (r : Result X Stop) (o : Option (List Node × State)) → Gives v r o → Gives (λ x. ((v x).0, (v x).1.bytes)) r (seen o)

@@ -10,3 +10,5 @@ pub mod Aparts
 pub mod Turns
 pub mod Picking
 pub mod Tasks
+pub mod Knowing
+pub mod Fronts

@@ -4,6 +4,7 @@ use Rattle.sh_grammar.specs.Expansions.{filling, trimming}
 use Rattle.sh_grammar.specs.Shape as shape
 use Rattle.sh_grammar.specs.State.{Node, text_node, digit_node, part_node, head_node, expr_node, word_node, op_node, aimed_node, redirect_node, assign_node, kind_node, command_node, bang_node, pipeline_node, and_node, or_node, chain_node, script_node, branch_node, else_node, listed_node, item_node}
 use Rattle.sh_syntax.specs.declared.tree.Joint.{Joint}
+use Rattle.sh_syntax.specs.declared.tree.Part.{Part}
 use Rattle.sh_syntax.specs.declared.tree.Joint.TheVariants.{And, Or}
 use Rattle.sh_syntax.specs.View.{view, view_param, view_test, view_part, view_word, view_redirect, view_assign, view_command, view_kind, view_pipeline, view_item, view_case_item, view_operator, words_of}
 use Rattle.sh_parser.specs.declared.values.Opening.TheVariants as openings
@@ -41,6 +42,10 @@ value_node (values.CaseItem i) = item_node (view_case_item i).0 (view_case_item 
 -- the values of a list
 abbrev pub nodes : List Value → List Node
 nodes vs = map value_node vs
+
+-- those of parts of words
+abbrev pub part_nodes : List Part → List Node
+part_nodes ps = map (λ p. part_node (view_part p)) ps
 
 -- what a step gives, if anything
 abbrev pub optional_nodes : Option Value → List Node

@@ -1,7 +1,10 @@
 //! Reserved words (POSIX 2.4), and what may come next.
 
-ghost use Rattle.std.specs.Prelude.{◌≡◌};
+ghost use Rattle.std.specs.Prelude.{◌≡◌, ◌||◌, false};
+ghost use Rattle.span_text.specs.KnownNames.{same_text};
+ghost use Rattle.sh_grammar.specs.Bytes as bytes_of;
 ghost use Rattle.sh_grammar.specs.Tokens as tokens;
+ghost use Rattle.sh_parser.specs.Fronts.{front_byte};
 ghost use Rattle.sh_parser.specs.Kinds as kinds;
 
 use crate::class::{Context, unit_starts};
@@ -61,16 +64,43 @@ pub fn bare_end(bytes: &[u8]) -> &[u8]
     run_end(Run::Literal(Context::Word), gap(bytes))
 }
 
+/// Whether a word here may be this text, by its first byte.
+#[tactic(auto, using(crate::proofs::Front::other_front, crate::proofs::Front::no_front))]
+fn may_begin(text: &[u8], bytes: &[u8]) -> bool
+    ensures { result ≡ false → same_text (bytes_of.literal_run bytes_of.in_word bytes.now).0 text.now ≡ false }
+{
+    match text {
+        [] => true,
+        [first, ..] => match bytes {
+            [] => false,
+            [b, ..] => *b == *first || *b == b'\\',
+        },
+    }
+}
+
 /// Whether this reserved word comes next.
 #[tactic(auto, unfolding(sh_grammar::specs::Tokens::is_key, sh_grammar::specs::Bytes::literal_run))]
 pub fn is_key(key: Key, bytes: &[u8]) -> bool
     ensures { result ≡ tokens.is_key (kinds.key key) bytes.now }
 {
-    run_is(Run::Literal(Context::Word), gap(bytes), key_text(key))
+    let text = key_text(key);
+    let front = gap(bytes);
+    may_begin(text, front)
+        && run_is(Run::Literal(Context::Word), front, text)
         && !unit_starts(Context::Word, bare_end(bytes))
 }
 
-fn opens_compound(bytes: &[u8]) -> bool
+/// The first byte at a token's place, or NUL at the end.
+fn front_byte(bytes: &[u8]) -> u8
+    ensures { result ≡ front_byte (bytes_of.gap bytes.now) }
+{
+    match gap(bytes) {
+        [] => 0,
+        [b, ..] => *b,
+    }
+}
+
+fn any_compound(bytes: &[u8]) -> bool
     ensures { result ≡ tokens.opens_compound bytes.now }
 {
     is_key(Key::If, bytes)
@@ -81,7 +111,32 @@ fn opens_compound(bytes: &[u8]) -> bool
         || is_key(Key::OpenBrace, bytes)
 }
 
-fn is_other_key(bytes: &[u8]) -> bool
+/// A reserved word that begins a compound command. Only those are compared that begin with the byte here.
+#[tactic(auto, using(crate::proofs::Front::opens_if, crate::proofs::Front::opens_for, crate::proofs::Front::opens_while, crate::proofs::Front::opens_until, crate::proofs::Front::opens_case, crate::proofs::Front::opens_brace, crate::proofs::Front::opens_none))]
+fn opens_compound(bytes: &[u8]) -> bool
+    ensures { result ≡ tokens.opens_compound bytes.now }
+{
+    let front = front_byte(bytes);
+    if front == b'\\' {
+        any_compound(bytes)
+    } else if front == b'i' {
+        is_key(Key::If, bytes)
+    } else if front == b'f' {
+        is_key(Key::For, bytes)
+    } else if front == b'w' {
+        is_key(Key::While, bytes)
+    } else if front == b'u' {
+        is_key(Key::Until, bytes)
+    } else if front == b'c' {
+        is_key(Key::Case, bytes)
+    } else if front == b'{' {
+        is_key(Key::OpenBrace, bytes)
+    } else {
+        false
+    }
+}
+
+fn any_other_key(bytes: &[u8]) -> bool
     ensures { result ≡ tokens.is_other_key bytes.now }
 {
     is_key(Key::Then, bytes)
@@ -94,6 +149,45 @@ fn is_other_key(bytes: &[u8]) -> bool
         || is_key(Key::Esac, bytes)
         || is_key(Key::CloseBrace, bytes)
         || is_key(Key::Bang, bytes)
+}
+
+fn is_key_of_e(bytes: &[u8]) -> bool
+    ensures { result ≡ (tokens.is_key tokens.Elif bytes.now || tokens.is_key tokens.Else bytes.now || tokens.is_key tokens.Esac bytes.now) }
+{
+    is_key(Key::Elif, bytes) || is_key(Key::Else, bytes) || is_key(Key::Esac, bytes)
+}
+
+fn is_key_of_d(bytes: &[u8]) -> bool
+    ensures { result ≡ (tokens.is_key tokens.Do bytes.now || tokens.is_key tokens.Done bytes.now) }
+{
+    is_key(Key::Do, bytes) || is_key(Key::Done, bytes)
+}
+
+/// A reserved word that begins no command. Only those are compared that begin with the byte here.
+#[tactic(auto, using(crate::proofs::Front::other_then, crate::proofs::Front::other_e, crate::proofs::Front::other_fi, crate::proofs::Front::other_in, crate::proofs::Front::other_d, crate::proofs::Front::other_brace, crate::proofs::Front::other_bang, crate::proofs::Front::other_none))]
+fn is_other_key(bytes: &[u8]) -> bool
+    ensures { result ≡ tokens.is_other_key bytes.now }
+{
+    let front = front_byte(bytes);
+    if front == b'\\' {
+        any_other_key(bytes)
+    } else if front == b't' {
+        is_key(Key::Then, bytes)
+    } else if front == b'e' {
+        is_key_of_e(bytes)
+    } else if front == b'f' {
+        is_key(Key::Fi, bytes)
+    } else if front == b'i' {
+        is_key(Key::In, bytes)
+    } else if front == b'd' {
+        is_key_of_d(bytes)
+    } else if front == b'}' {
+        is_key(Key::CloseBrace, bytes)
+    } else if front == b'!' {
+        is_key(Key::Bang, bytes)
+    } else {
+        false
+    }
 }
 
 /// Whether `<<` or `<<-` comes next.

@@ -23,7 +23,7 @@ use crate::gaps::clear;
 use crate::names::{is_byte, tilde_at};
 use crate::notes::{LIMIT, Notes, param_of, part_of_kind};
 use crate::params::{Head, dollar_head, dollar_param};
-use crate::runs::{Run, is_bare_dollar, run_end, run_text};
+use crate::runs::{Run, is_bare_dollar, run_of};
 use crate::steps::byte_of;
 use crate::values::{Opening, Value};
 use sh_syntax::{ParamOp, PartKind};
@@ -130,9 +130,7 @@ pub fn literal_of<'a>(
 ) -> Result<(Option<Value>, &'a [u8]), Stop>
     ensures { (k : Known) → Gives (λ x. (optional_nodes x.0, state x.1.now notes.now)) result (stepped (steps.run_step k (table.literal (kinds.context place)) (state bytes.now notes.now))) }
 {
-    let front = clear(bytes);
-    let rest = run_end(Run::Literal(place), front);
-    let text = run_text(alloc, Run::Literal(place), front)?;
+    let (text, rest) = run_of(alloc, Run::Literal(place), clear(bytes))?;
     if text.bytes().is_empty() {
         return Err(Stop::Bad);
     }

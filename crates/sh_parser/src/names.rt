@@ -10,7 +10,7 @@ use crate::class::{Context, begins_name, unit_starts};
 use crate::fault::Stop;
 use crate::gaps::{clear, gap};
 use crate::keys::name_next;
-use crate::runs::{Run, run_end, run_text};
+use crate::runs::{Run, run_end, run_of};
 use crate::tokens::{Op, is_token};
 use span_text::Text;
 use std::alloc::Global;
@@ -41,8 +41,7 @@ pub fn name_at<'a>(alloc: Global, bytes: &'a [u8]) -> Result<(Text, &'a [u8]), S
     if !starts_name(bytes) {
         return Err(Stop::Bad);
     }
-    let rest = run_end(Run::Name, bytes);
-    Ok((run_text(alloc, Run::Name, bytes)?, rest))
+    run_of(alloc, Run::Name, bytes)
 }
 
 /// The name before a `=` at a token's place, and what follows the `=`.

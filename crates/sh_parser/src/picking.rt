@@ -48,6 +48,15 @@ fn keep<T: Drop>(place: &mut Option<T>, item: T)
     }
 }
 
+/// The same items, without room for more of them.
+pub fn tight<T>(items: List<T>) -> List<T>
+    ensures { result ≡ items }
+{
+    let mut cells = items.into_vec();
+    cells.shrink_to_fit();
+    List::from_vec(cells)
+}
+
 /// The first item.
 pub fn first<T: Drop>(items: List<T>) -> Option<T>
     ensures { result ≡ picking.head items }

@@ -13,11 +13,13 @@ ghost use Rattle.sh_grammar.specs.Steps as steps;
 ghost use Rattle.sh_grammar.specs.Spelling.{sh};
 ghost use Rattle.sh_syntax.specs.View.{view_word};
 ghost use Rattle.sh_parser.specs.Answers.{Gives};
+ghost use Rattle.sh_parser.specs.Knowing.{MayBe, Grows};
 ghost use Rattle.sh_parser.specs.Tables as tables;
 ghost use Rattle.sh_parser.specs.Values.{value_node, nodes};
 ghost use Rattle.sh_parser.specs.Views.{known, state};
 
 use crate::fault::Stop;
+use crate::knowing::{Bodies, look_ahead};
 use crate::notes::{Notes, word_of_parts};
 use crate::redirects::{body_of, here_front, here_operator, plain_parts};
 use crate::table::{Rule, Unit, WordRule};
@@ -35,12 +37,13 @@ const TURNS: u64 = u64::MAX;
 pub fn rule_of<'a>(
     alloc: Global,
     levels: u32,
-    bodies: &[Text],
+    bodies: &mut Bodies,
     wanted: Rule,
     bytes: &'a [u8],
     notes: &mut Notes,
 ) -> Result<(List<Value>, &'a [u8]), Stop>
-    ensures { Gives (λ x. (nodes x.0, state x.1.now notes.new)) result (vals (sh levels bodies.now) (rule (tables.rule wanted)) (state bytes.now notes.old)) }
+    ensures gives { (ds : List Bytes) → MayBe bodies.new ds → Gives (λ x. (nodes x.0, state x.1.now notes.new)) result (vals (sh levels ds) (rule (tables.rule wanted)) (state bytes.now notes.old)) }
+    ensures grows { Grows bodies.old bodies.new }
 {
     let mut tasks = Vec::new(alloc);
     let unit = Unit::Rule(wanted);
@@ -76,15 +79,19 @@ pub fn rule_of<'a>(
 fn here_of<'a>(
     alloc: Global,
     levels: u32,
-    bodies: &[Text],
+    bodies: &mut Bodies,
     bytes: &'a [u8],
     notes: &mut Notes,
 ) -> Result<(Value, &'a [u8]), Stop>
-    ensures { Gives (λ x. (value_node x.0 ∷ [], state x.1.now notes.new)) result (stepped (steps.run_step (known levels bodies.now) table.here (state bytes.now notes.old))) }
+    ensures gives { (ds : List Bytes) → MayBe bodies.new ds → Gives (λ x. (value_node x.0 ∷ [], state x.1.now notes.new)) result (stepped (steps.run_step (known levels ds) table.here (state bytes.now notes.old))) }
+    ensures grows { Grows bodies.old bodies.new }
 {
     let (owed, rest) = here_front(alloc, bytes)?;
     let literal = owed.literal;
-    let body = body_of(bodies, notes.owed.len(), notes.found.len());
+    let before = notes.owed.len();
+    let found = notes.found.len();
+    look_ahead(alloc, bodies, &owed, before, found, rest)?;
+    let body = body_of(bodies.texts.as_slice(), before, found);
     let word = document_of(alloc, levels, body, literal, bytes, rest, notes)?;
     notes.owed.push(owed)?;
     Ok((Value::Aimed(here_operator(literal), word), rest))
@@ -131,13 +138,15 @@ fn expanded_of(
     }
     let rule = Rule::Word(WordRule::BodyParts);
     let mut first = notes.inner(alloc, from, to);
-    let (values, _) = rule_of(alloc, levels - 1, &[], rule, text, &mut first)?;
-    if first.found.len() == 0 {
+    let mut none = Bodies::all(List::new(alloc));
+    let (values, _) = rule_of(alloc, levels - 1, &mut none, rule, text, &mut first)?;
+    let Notes { found, .. } = first;
+    if found.len() == 0 {
         return word_in_values(alloc, values, notes, from, to);
     }
     let mut second = notes.inner(alloc, from, to);
-    let bodies = first.found.as_slice();
-    let (values, _) = rule_of(alloc, levels - 1, bodies, rule, text, &mut second)?;
+    let mut bodies = Bodies::all(found);
+    let (values, _) = rule_of(alloc, levels - 1, &mut bodies, rule, text, &mut second)?;
     word_in_values(alloc, values, notes, from, to)
 }
 

@@ -1,6 +1,6 @@
 //! The longest front of bytes of one kind, with joins between them left out.
 
-ghost use Rattle.std.specs.Prelude.{◌≡◌, false};
+ghost use Rattle.std.specs.Prelude.{◌≡◌, false, IfOk};
 ghost use Rattle.span_text.specs.KnownNames.{same_text};
 ghost use Rattle.sh_grammar.specs.Bytes as bytes_of;
 ghost use Rattle.sh_parser.specs.Kinds as kinds;
@@ -93,6 +93,28 @@ pub fn run_text(alloc: Global, run: Run, bytes: &[u8]) -> Result<Text, Stop>
             [b, after @ ..] => {
                 if !goes_on(run, *b, after) {
                     return Ok(Text::from_vec(text));
+                }
+                text.push(*b)?;
+                rest = after;
+            },
+        }
+    }
+}
+
+/// The bytes of the run, and what follows them.
+pub fn run_of<'a>(alloc: Global, run: Run, bytes: &'a [u8]) -> Result<(Text, &'a [u8]), Stop>
+    ensures text { Gives (λ x. x.0) result (Some (bytes_of.run_from (kinds.goes_on run) false bytes.now).0) }
+    ensures rest { IfOk result (λ x. x.1.now ≡ (bytes_of.run_from (kinds.goes_on run) false bytes.now).1) }
+{
+    let mut text = Vec::new(alloc);
+    let mut rest = bytes;
+    'run: loop {
+        match rest {
+            [] => return Ok((Text::from_vec(text), rest)),
+            [b'\\', b'\n', after @ ..] => rest = after,
+            [b, after @ ..] => {
+                if !goes_on(run, *b, after) {
+                    return Ok((Text::from_vec(text), rest));
                 }
                 text.push(*b)?;
                 rest = after;

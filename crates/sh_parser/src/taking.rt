@@ -63,7 +63,7 @@ fn name_step<'a>(
 }
 
 /// The steps of words.
-fn take_word<'a>(
+pub fn take_word<'a>(
     alloc: Global,
     step: WordStep,
     bytes: &'a [u8],

@@ -4,6 +4,7 @@ ghost use Rattle.std.specs.Prelude.{◌≡◌, ◌∷◌, ◌++◌, ℕ, List, t
 ghost use Rattle.sh_grammar.specs.State.{start_at};
 ghost use Rattle.sh_grammar.specs.Steps as steps;
 ghost use Rattle.sh_grammar.specs.Acts as acts;
+ghost use Rattle.sh_grammar.specs.Table as table;
 ghost use Rattle.sh_grammar.specs.Bytes.{Text as Bytes};
 ghost use Rattle.sh_grammar.specs.State.{State, Node};
 ghost use Rattle.sh_parser.specs.Answers.{Gives};
@@ -15,6 +16,7 @@ ghost use Rattle.sh_parser.specs.Views.{state};
 
 use crate::acts::{act, leads_on};
 use crate::ahead::holds;
+use crate::direct::word;
 use crate::fault::Stop;
 use crate::gaps::gap;
 use crate::notes::{Notes, span_of};
@@ -162,6 +164,35 @@ fn begin(
     Ok(List::new(alloc))
 }
 
+fn is_word(rule: Rule) -> bool
+    ensures { result ≡ true → tables.rule rule ≡ table.word }
+{
+    match rule {
+        Rule::Word(WordRule::Word) => true,
+        _ => false,
+    }
+}
+
+/// A rule begins, or a word is read at once.
+fn rule_turn<'a>(
+    alloc: Global,
+    rule: Rule,
+    values: List<Value>,
+    bytes: &'a [u8],
+    tasks: &mut Vec<Task>,
+    notes: &Notes,
+) -> Result<(List<Value>, &'a [u8]), Stop>
+    ensures turns { (n : ℕ) (ds : List Bytes) → Turns result (λ x. go_on n ds (todos tasks.new.items) (nodes x.0) (state x.1.now notes.now)) (go_on n ds (tasks_of.unit (Unit.Rule rule) ∷ todos tasks.old.items) (nodes values) (state bytes.now notes.now)) }
+    ensures ready { IfOk result (λ _. all_ready (todos tasks.old.items) ≡ true → all_ready (todos tasks.new.items) ≡ true) }
+{
+    if is_word(rule) {
+        if let Some((word, rest)) = word(alloc, bytes, notes)? {
+            return Ok((with(values, Some(Value::Word(word)))?, rest));
+        }
+    }
+    Ok((begin(alloc, rule, values, bytes, tasks, notes)?, bytes))
+}
+
 /// A step is read, or a rule begins.
 pub fn unit_turn<'a>(
     alloc: Global,
@@ -190,7 +221,7 @@ pub fn unit_turn<'a>(
             tasks.push(Task::Here)?;
             Ok((values, bytes))
         }
-        Unit::Rule(rule) => Ok((begin(alloc, rule, values, bytes, tasks, notes)?, bytes)),
+        Unit::Rule(rule) => rule_turn(alloc, rule, values, bytes, tasks, notes),
     }
 }
 

@@ -12,7 +12,7 @@ ghost use Rattle.sh_syntax.specs.View.{view, view_item, view_pipeline, items_of}
 use crate::acts::empty::pipeline_or_empty;
 use crate::acts::single::one;
 use crate::fault::Stop;
-use crate::picking::{Picked, pick};
+use crate::picking::{Picked, pick, tight};
 use crate::table::{LineRule, PipeRule};
 use crate::values::Value;
 use sh_syntax::{AndOr, Item, Joint, Pipeline, Script};
@@ -25,7 +25,7 @@ pub fn chains_of(alloc: Global, values: List<Value>) -> Result<List<Item>, Stop>
     ensures { Gives (λ x. items_of (map view_item x)) result (Some (states.chains_in (nodes values))) }
 {
     let Picked { chains, .. } = pick(alloc, values)?;
-    Ok(chains)
+    Ok(tight(chains))
 }
 
 #[tactic(auto, using(crate::proofs::Rolls::script_rolled))]

@@ -12,7 +12,7 @@ ghost use Rattle.sh_syntax.specs.View.{view_command, view_assign};
 use crate::acts::empty::{name_or_empty, word_or_empty};
 use crate::acts::single::one;
 use crate::fault::Stop;
-use crate::picking::{Picked, first, pick};
+use crate::picking::{Picked, first, pick, tight};
 use crate::table::SimpleRule;
 use crate::values::Value;
 use sh_syntax::{Assign, AssignValue, Command, CommandKind, Redirect};
@@ -29,6 +29,7 @@ fn simple_command(alloc: Global, values: List<Value>, span: Span) -> Result<Comm
         redirects,
         ..
     } = pick(alloc, values)?;
+    let words = tight(words);
     Ok(Command {
         kind: CommandKind::Simple { assigns, words },
         redirects,

@@ -9,7 +9,7 @@ ghost use Rattle.sh_syntax.specs.View.{view, view_word};
 
 use crate::acts::empty::script_or_empty;
 use crate::fault::Stop;
-use crate::picking::{Picked, first, pick, two};
+use crate::picking::{Picked, first, pick, tight, two};
 use crate::values::Value;
 use sh_syntax::{Script, Word};
 use span_text::{List, Span};
@@ -52,5 +52,6 @@ pub fn word(alloc: Global, values: List<Value>, span: Span) -> Result<Word, Stop
     ensures { Gives view_word result (Some (states.parts_in (nodes values))) }
 {
     let Picked { parts, .. } = pick(alloc, values)?;
+    let parts = tight(parts);
     Ok(Word { parts, span })
 }

@@ -12,7 +12,7 @@ ghost use Rattle.sh_syntax.specs.View.{view_part, view_part_kind, view_word, wor
 
 use crate::acts::single::{one, script, word};
 use crate::fault::Stop;
-use crate::picking::{Picked, pick};
+use crate::picking::{Picked, pick, tight};
 use crate::table::{DollarRule, WordRule};
 use crate::values::{Opening, Value};
 use sh_syntax::{Arith, ParamOp, Part, PartKind, Word};
@@ -26,7 +26,7 @@ fn double_quotes(alloc: Global, values: List<Value>, span: Span) -> Result<Part,
 {
     let Picked { parts, .. } = pick(alloc, values)?;
     Ok(Part {
-        kind: PartKind::Double(parts),
+        kind: PartKind::Double(tight(parts)),
         span,
     })
 }
@@ -65,6 +65,7 @@ fn filled(alloc: Global, values: List<Value>, span: Span) -> Result<Part, Stop>
     ensures { Gives view_part result (Some (states.filled_in (nodes values) (states.parts_in (nodes values)))) }
 {
     let Picked { opening, parts, .. } = pick(alloc, values)?;
+    let parts = tight(parts);
     let kind = opened(alloc, opening, Word { parts, span });
     Ok(Part { kind, span })
 }
