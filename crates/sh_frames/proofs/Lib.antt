@@ -1,0 +1,5 @@
+pub mod Sequence
+pub mod WordLaws
+pub mod CommandLaws
+pub mod ShellLaws
+pub mod LoopLaws

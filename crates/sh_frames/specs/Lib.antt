@@ -1,0 +1,4 @@
+pub mod Payloads
+pub mod Frames
+pub mod Turns
+pub mod Exits
