@@ -27,8 +27,3 @@ pub use names::{is_sh_builtin, is_special};
 pub use operands::{is_export_operand, is_fit_operand};
 pub use run::run_builtin;
 pub use variables::{assign, exported_environment, start_variables, value_at};
-
-#[cfg(test)]
-mod cases;
-#[cfg(test)]
-mod tests;

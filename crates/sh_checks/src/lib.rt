@@ -25,6 +25,3 @@ pub use redirects::{fd_of, plain_text};
 pub use roles::Role;
 pub use sums::behind_signs;
 pub use tildes::{Where, has_doubtful_tilde};
-
-#[cfg(test)]
-mod tests;

@@ -20,6 +20,3 @@ pub use parameters::{
 };
 pub use pathname::{field_texts, texts_among};
 pub use patterns::{pattern_of, trimmed};
-
-#[cfg(test)]
-mod tests;

@@ -13,6 +13,3 @@ mod numbers;
 pub use assigning::assign;
 pub use evaluating::evaluate;
 pub use numbers::{number_text, operand_number};
-
-#[cfg(test)]
-mod tests;

@@ -1,6 +1,6 @@
 //! Built-ins that tests run, each in a setting, and what is shown of it.
 
-use crate::{Environment, Flow, Form, Place, Stop, run_builtin, start_variables};
+use sh_builtins::{Environment, Flow, Form, Place, Stop, run_builtin, start_variables};
 use sh_meaning::Variable;
 use sh_syntax::{Name, Param, ParamOp, Part, PartKind, Word};
 use shell_world::{Bounds, End, Fds, Latitude, Outside, TextMap, World, copy_texts};

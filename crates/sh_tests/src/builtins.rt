@@ -2,7 +2,7 @@
 
 use crate::cases::W::{Gone, Plain as P, PlainQuotedValue, PlainValue, Quoted, QuotedValue, Value};
 use crate::cases::{INSIDE, Output, Setting, Show, TOP, W, given, shown};
-use crate::{is_sh_builtin, is_special};
+use sh_builtins::{is_sh_builtin, is_special};
 use span_text::Memory;
 use std::alloc::Global;
 use std::test::Fail;

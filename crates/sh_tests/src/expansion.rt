@@ -1,6 +1,6 @@
 //! The pieces, at both sides of their borders.
 
-use crate::{
+use sh_expansion::{
     Expanded, Listing, Mode, Purpose, arguments, can_trim, field_texts, has_length, home, ifs,
     is_lacking, length, parameter, parameter_text, pattern_of, texts_among, trimmed,
 };

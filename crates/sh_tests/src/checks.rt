@@ -1,6 +1,6 @@
 //! Words, expressions and commands at both sides of the borders.
 
-use crate::{
+use sh_checks::{
     Role, Where, behind_signs, fd_of, functions_of, has_assigns, has_crowded_lists,
     has_doubtful_tilde, is_entangled, is_list, is_misassigned, names_of, plain_text,
 };

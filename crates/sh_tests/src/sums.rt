@@ -1,8 +1,8 @@
 //! Values of expressions, at both sides of the borders.
 
-use crate::{assign, evaluate, number_text, operand_number};
 use arith64::read_expr;
 use sh_meaning::Variable;
+use sh_sums::{assign, evaluate, number_text, operand_number};
 use shell_world::TextMap;
 use span_text::{Expr, Memory, Text};
 use std::alloc::Global;
