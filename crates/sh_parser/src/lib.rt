@@ -39,6 +39,3 @@ mod values;
 
 pub use fault::ReadFault;
 pub use script::read;
-
-#[cfg(test)]
-mod tests;
