@@ -66,6 +66,12 @@ Runs functions r n old env new (Ok flow) = r ≡ Ends (flow_of flow) (own_state 
 Runs functions r n old env new (Err stop.Memory) = Unit {0}
 Runs functions r n old env new (Err stop.Unspecified) = r ≡ Unspecified old.trace n
 
+-- where nothing says what is done, the record is as it was
+abbrev pub Keeps : Running → Running → Result Code Stop → Type 0
+Keeps old new (Ok flow) = Unit {0}
+Keeps old new (Err stop.Memory) = Unit {0}
+Keeps old new (Err stop.Unspecified) = new.trace ≡ old.trace
+
 -- a text that is printed
 abbrev pub Outputs : Option Text → Result Text Stop → Type 0
 Outputs o (Ok text) = o ≡ Some text

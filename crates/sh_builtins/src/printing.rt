@@ -4,7 +4,7 @@ ghost use Rattle.std.specs.Prelude.{◌≡◌, ◌++◌, ◌∷◌, [], IfOk, So
 ghost use Rattle.std.specs.List.{list_any, join_by};
 ghost use Rattle.fmt_print.specs.Printing.{formatted as format_answer};
 ghost use Rattle.sh_meaning.specs.builtins.Printing as printing;
-ghost use Rattle.sh_builtins.specs.Views.{Leaves, state_of, Outputs};
+ghost use Rattle.sh_builtins.specs.Views.{Keeps, Leaves, state_of, Outputs};
 
 use crate::environment::Environment;
 use crate::flow::{Flow, Stop};
@@ -19,6 +19,7 @@ use std::alloc::Global;
 fn print(text: &[u8], env: &mut Environment, outside: &mut Outside) -> Result<Flow, Stop>
     ensures table { outside.new.rows ≡ outside.old.rows }
     ensures leaves { Leaves (printing.prints text.now (state_of env.old outside.old)) env.new outside.new result }
+    ensures kept { Keeps outside.old outside.new result }
 {
     let done = outside.write(env.fds.get(1), text)?;
     env.status = if done { 0 } else { 1 };
@@ -112,6 +113,7 @@ pub fn printf(
 ) -> Result<Flow, Stop>
     ensures table { outside.new.rows ≡ outside.old.rows }
     ensures leaves { Leaves (printing.printf_run args.now (state_of env.old outside.old)) env.new outside.new result }
+    ensures kept { Keeps outside.old outside.new result }
 {
     let text = printf_output(alloc, args)?;
     print(text.bytes(), env, outside)
@@ -175,6 +177,7 @@ pub fn echo(
 ) -> Result<Flow, Stop>
     ensures table { outside.new.rows ≡ outside.old.rows }
     ensures leaves { Leaves (printing.echo_run args.now (state_of env.old outside.old)) env.new outside.new result }
+    ensures kept { Keeps outside.old outside.new result }
 {
     let text = echo_output(alloc, args)?;
     print(text.bytes(), env, outside)

@@ -5,7 +5,7 @@ ghost use Rattle.std.specs.List.{list_all};
 ghost use Rattle.std.specs.Option.{option_copied};
 ghost use Rattle.shell_world.specs.Running.{index_of};
 ghost use Rattle.sh_meaning.specs.builtins.Reading as reading;
-ghost use Rattle.sh_builtins.specs.Views.{Leaves, state_of, form_of, is_raw, words_before};
+ghost use Rattle.sh_builtins.specs.Views.{Keeps, Leaves, state_of, form_of, is_raw, words_before};
 ghost use Rattle.sh_builtins.specs.Lines.{Takes, quotes_behind, input_at, taken_at};
 
 use crate::environment::Environment;
@@ -182,6 +182,7 @@ fn read_line_to(
     requires { 0 < length names.now }
     ensures table { outside.new.rows ≡ outside.old.rows }
     ensures leaves { Leaves (reading.reads (is_raw backslashes) names.now (state_of env.old outside.old)) env.new outside.new result }
+    ensures kept { Keeps outside.old outside.new result }
 {
     let line = take_line(alloc, backslashes, outside, env.fds.get(0))?;
     let texts = texts_read(
@@ -227,6 +228,7 @@ pub fn read(
 ) -> Result<Flow, Stop>
     ensures table { outside.new.rows ≡ outside.old.rows }
     ensures leaves { Leaves (reading.read_run (form_of form.now) args.now (state_of env.old outside.old)) env.new outside.new result }
+    ensures kept { Keeps outside.old outside.new result }
 {
     match args {
         [] => Err(Stop::Unspecified),
@@ -260,6 +262,7 @@ fn read_names(
 ) -> Result<Flow, Stop>
     ensures table { outside.new.rows ≡ outside.old.rows }
     ensures leaves { Leaves (reading.read_names (words_before backslashes) (is_raw backslashes) (form_of form.now) names.now (state_of env.old outside.old)) env.new outside.new result }
+    ensures kept { Keeps outside.old outside.new result }
 {
     if can_read(words_before(backslashes), form, names) {
         read_line_to(alloc, backslashes, names, env, outside)

@@ -5,7 +5,7 @@ ghost use Rattle.shell_world.specs.Texts.{Map};
 ghost use Rattle.sh_grammar.specs.Shape.{Command};
 ghost use Rattle.sh_meaning.specs.builtins.Ends.{ends};
 ghost use Rattle.sh_meaning.specs.builtins.Run as meaning;
-ghost use Rattle.sh_builtins.specs.Views.{Changes, Leaves, Runs, core_of, state_of, own_state, place_of, form_of};
+ghost use Rattle.sh_builtins.specs.Views.{Keeps, Changes, Leaves, Runs, core_of, state_of, own_state, place_of, form_of};
 
 use crate::environment::Environment;
 use crate::flow::{Flow, Place, Stop};
@@ -72,6 +72,7 @@ fn run(
 ) -> Result<Flow, Stop>
     ensures table { outside.new.rows ≡ outside.old.rows }
     ensures leaves { Leaves (meaning.ending (place_of place) (form_of form.now) builtin args.now (state_of env.old outside.old)) env.new outside.new result }
+    ensures kept { Keeps outside.old outside.new result }
 {
     match builtin {
         Builtin::Printf => printf(alloc, args, env, outside),
@@ -108,6 +109,7 @@ pub fn run_builtin(
 ) -> Result<Flow, Stop>
     ensures table { outside.new.rows ≡ outside.old.rows }
     ensures runs { (functions : Map Command) (turns : ℕ) → Runs functions (meaning.builtin_run (place_of place) (form_of form.now) name.now args.now turns (own_state functions env.old outside.old)) turns outside.old env.new outside.new result }
+    ensures kept { Keeps outside.old outside.new result }
 {
     match builtin_of(name) {
         None => Err(Stop::Unspecified),
