@@ -1,7 +1,9 @@
 -- A turn is taken before a run.
-use Rattle.std.proofs.Common.{◌≡◌, ℕ, suc, List, refl}
-use Rattle.std.specs.Prelude.{Bool, true, false, Option, Some, None, Result, Ok, if◌then◌else◌}
-use Rattle.shell_world.specs.Runs.{St, Do, after}
+use Rattle.std.proofs.Common.{◌≡◌, ◌∙◌, ℕ, suc, List, refl, sym, ap}
+use Rattle.std.specs.Prelude.{Bool, true, false, Option, Some, None, Result, Ok, Err, if◌then◌else◌}
+use Rattle.shell_world.specs.Texts.{Map}
+use Rattle.shell_world.specs.Runs.{St, Do, Res, Unspecified, after}
+use Rattle.sh_grammar.specs.Shape.{Command}
 use Rattle.shell_runs.specs.Flow.{Flow}
 use Rattle.shell_runs.specs.Flow as ways
 use Rattle.shell_runs.specs.Sequences.{take_turn}
@@ -9,16 +11,20 @@ use Rattle.sh_meaning.specs.Own.{Own}
 use Rattle.sh_meaning.specs.Simple.{Setting, Calls}
 use Rattle.sh_builtins.specs.declared.flow.Flow.{Flow as Code}
 use Rattle.sh_builtins.specs.declared.flow.Flow.TheVariants as code
-use Rattle.sh_builtins.specs.Views.{flow_of}
+use Rattle.sh_builtins.specs.declared.flow.Stop.{Stop}
+use Rattle.sh_builtins.specs.declared.flow.Stop.TheVariants as stop
+use Rattle.sh_builtins.specs.declared.environment.Environment.{Environment}
+use Rattle.sh_builtins.specs.Views.{flow_of, Runs, Keeps}
 use Rattle.sh_frames.specs.Payloads.{Next}
 use Rattle.sh_runner.specs.declared.halt.Halt.{Halt}
+use Rattle.sh_runner.specs.declared.halt.Halt.TheVariants as halt
 use Rattle.sh_runner.specs.declared.payload.Payload.{Payload}
 use Rattle.sh_runner.specs.declared.shell.Shell.{Shell}
 use Rattle.sh_runner.specs.declared.frames.Frames.{Frames}
 use Rattle.sh_meaning.specs.Commands.{level}
 use Rattle.sh_frames.specs.Turns.{go_on}
-use Rattle.sh_runner.specs.Answers.{Does, Leads, Turns}
-use Rattle.sh_runner.specs.Views.{stack_of, state_of}
+use Rattle.sh_runner.specs.Answers.{Does, Leads, Ran, Steps, Turns}
+use Rattle.sh_runner.specs.Views.{halt_of, stack_of, state_of}
 
 pub taken : {X : Type 0} (z : Setting) (run : Calls → Do X Own) (to : Next → ℕ → X → Do Flow Own) (fs gs : Frames) (old new last : Shell) (r : Result Payload Halt) →
     (old.turns ≡ suc new.turns) × (new ≡ record old { turns = new.turns }) →
@@ -48,3 +54,22 @@ unless {b = false} e = (refl, (cc))
 pub did : {C X : Type 0} (view : C → X) (run : Do X Own) (old new : Shell) (x : C) (k : ℕ → X → Do Flow Own) → Does view run old new (Ok x) →
     (after (run old.turns (state_of old)) (k old.levels) ≡ k new.levels (view x) new.turns (state_of new)) × (new.outside.rows ≡ old.outside.rows)
 did view run old new x k h = (rw (h.0, h.1) refl, h.2)
+
+-- what a built-in that stops leaves
+pub stopped : (run : Do Flow Own) (functions : Map Command) (old new : Shell) (env : Environment) (s : Stop) →
+    Runs functions (run old.turns (state_of old)) new.turns old.outside env new.outside (Err s) → Keeps old.outside new.outside (Err s) → Does flow_of run old new (Err (halt_of s))
+stopped run functions old new env stop.Memory r k = tt
+stopped run functions old new env stop.Unspecified r k = r ∙ ap (λ t. Unspecified t new.turns) (sym k)
+
+-- a run without frames that halts is a step that halts
+pub halted : (z : Setting) (run : Do Flow Own) (fs : Frames) (old new : Shell) (h : Halt) → Ran run old new (Err h) → Steps z (run old.turns (state_of old)) old.outside.rows fs new (Err h)
+halted z run fs old new halt.Memory r = tt
+halted z run fs old new halt.GoesOn r = r
+halted z run fs old new halt.Unspecified r = r
+
+-- what a run gave, of another that is the same from where it began
+pub ran_as : (run other : Do Flow Own) (old new : Shell) (r : Result Code Halt) → run old.turns (state_of old) ≡ other old.turns (state_of old) → Ran run old new r → Ran other old new r
+ran_as run other old new (Ok f) e h = sym e ∙ h
+ran_as run other old new (Err halt.Memory) e h = tt
+ran_as run other old new (Err halt.GoesOn) e h = sym e ∙ h
+ran_as run other old new (Err halt.Unspecified) e h = sym e ∙ h

@@ -11,6 +11,8 @@ use Rattle.sh_builtins.specs.Views.{flow_of}
 use Rattle.sh_runner.specs.declared.halt.Halt.{Halt}
 use Rattle.sh_runner.specs.declared.halt.Halt.TheVariants as halt
 use Rattle.sh_runner.specs.declared.payload.Payload.{Payload}
+use Rattle.sh_runner.specs.declared.running.Step.{Step}
+use Rattle.sh_runner.specs.declared.running.Step.TheVariants as step
 use Rattle.sh_runner.specs.declared.shell.Shell.{Shell}
 use Rattle.sh_frames.specs.Payloads.{Next}
 use Rattle.sh_runner.specs.declared.frames.Frames.{Frames}
@@ -49,6 +51,14 @@ Ran run old new (Ok flow) = run old.turns (state_of old) ≡ Ends (flow_of flow)
 Ran run old new (Err halt.Memory) = Unit {0}
 Ran run old new (Err halt.GoesOn) = run old.turns (state_of old) ≡ GoesOn new.outside.trace new.turns
 Ran run old new (Err halt.Unspecified) = run old.turns (state_of old) ≡ Unspecified new.outside.trace new.turns
+
+-- what a turn of the machine came to: the rest, or the end
+abbrev pub Steps : Setting → Res Flow Own → List Row → Frames → Shell → Result Step Halt → Type 0
+Steps z whole rows fs shell (Ok (step.Goes p)) = (whole ≡ go_on z (stack_of fs) shell.levels (payload_of p) shell.turns (state_of shell)) × (shell.outside.rows ≡ rows)
+Steps z whole rows fs shell (Ok (step.Ends flow)) = whole ≡ Ends (flow_of flow) (state_of shell) shell.turns
+Steps z whole rows fs shell (Err halt.Memory) = Unit {0}
+Steps z whole rows fs shell (Err halt.GoesOn) = whole ≡ GoesOn shell.outside.trace shell.turns
+Steps z whole rows fs shell (Err halt.Unspecified) = whole ≡ Unspecified shell.outside.trace shell.turns
 
 -- a turn is taken, or none is left
 abbrev pub TakesTurn : Shell → Shell → Result (Unit {0}) Halt → Type 0

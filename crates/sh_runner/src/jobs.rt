@@ -3,26 +3,35 @@
 ghost use Rattle.std.specs.Prelude.{◌≡◌, ℕ, List, [], ◌∷◌, drop, map, IfOk, OnOk};
 ghost use Rattle.shell_world.specs.Runs.{after, with_own};
 ghost use Rattle.shell_world.specs.Texts.{lookup};
+ghost use Rattle.shell_world.specs.declared.world.World.{World};
 ghost use Rattle.sh_syntax.specs.View.{view_assign, view_command, view_redirect, view_word, assigns_of, redirects_of, words_of};
-ghost use Rattle.sh_builtins.specs.Views.{place_of};
+ghost use Rattle.sh_builtins.specs.Views.{flow_of, place_of};
 ghost use Rattle.shell_runs.specs.Calls.{called_run};
+ghost use Rattle.shell_runs.specs.Redirecting as redirecting;
 ghost use Rattle.sh_meaning.specs.Commands as commands;
 ghost use Rattle.sh_meaning.specs.Own as owns;
 ghost use Rattle.sh_meaning.specs.Redirecting as meaning;
 ghost use Rattle.sh_meaning.specs.Simple as simple;
-ghost use Rattle.sh_runner.specs.Answers.{Turns};
+ghost use Rattle.sh_runner.specs.Answers.{Does, Turns};
 ghost use Rattle.sh_frames.specs.Payloads.{to_ended};
 ghost use Rattle.sh_frames.specs.Turns as turns;
-ghost use Rattle.sh_runner.specs.Views.{Looked, state_of, arguments_of, found_of, job_of, prefixed_of, whole_of};
+ghost use Rattle.sh_runner.specs.Views.{Looked, state_of, arguments_of, found_of, job_of, made_of, prefixed_of, saved_of, setting_of, whole_of};
 
+use crate::assigns::restore;
 use crate::commands::command;
+use crate::compounds::compound;
 use crate::frames::{FlowFrame, Frame, Frames, Job, MadeFrame, Prefixed, SavedFrame, TruthFrame};
 use crate::halt::Halt;
 use crate::loops::take_turn;
 use crate::payload::{Arguments, Made, Payload};
-use crate::shell::Shell;
-use sh_builtins::{Place, is_sh_builtin, is_special};
+use crate::shell::{Setting, Shell};
+use sh_builtins::{
+    Flow, Form, Place, exported_environment, is_sh_builtin, is_special, run_builtin,
+};
+use sh_checks::names_of;
+use sh_meaning::Variable;
 use sh_syntax::{Assign, Command, Redirect, Word};
+use shell_world::copy_texts;
 use span_text::{List, Memory, Text, is_known_command};
 use std::alloc::Global;
 
@@ -176,6 +185,72 @@ pub fn simple<'s>(
     }
 }
 
+/// A built-in, by its name and arguments.
+fn builtin<'s>(
+    setting: &Setting<'s>,
+    place: Place,
+    assigns: &'s [Assign],
+    words: &'s [Word],
+    argv: &[Text],
+    shell: &mut Shell<'s>,
+) -> Result<Flow, Halt>
+    ensures { Does flow_of (turns.builtin_by (place_of place) (simple.form_of (setting_of setting.now) (assigns_of (map view_assign assigns.now)) (words_of (map view_word words.now))) argv.now) shell.old shell.new result }
+{
+    let [name, args @ ..] = argv else {
+        return Err(Halt::Unspecified);
+    };
+    let prefix = names_of(shell.alloc, assigns)?;
+    let form = Form {
+        functions: setting.functions,
+        prefix: prefix.as_slice(),
+        words,
+    };
+    let env = &mut shell.own.env;
+    let outside = &mut shell.outside;
+    Ok(run_builtin(shell.alloc, place, &form, name.bytes(), args, env, outside)?)
+}
+
+/// An external command (2.9.1.4).
+fn external<'s>(argv: &List<Text>, shell: &mut Shell<'s>) -> Result<Flow, Halt>
+    ensures { (world : World) → shell.old.outside.rows ≡ world.rows → Does flow_of (simple.external_run world argv.now) shell.old shell.new result }
+{
+    let env = exported_environment(shell.alloc, &shell.own.env.vars)?;
+    shell.own.env.status = shell.outside.call(argv, &env, &shell.own.env.fds)?;
+    Ok(Flow::Normal)
+}
+
+/// A command behind its prefix.
+fn run_prefixed<'s>(
+    setting: &Setting<'s>,
+    command: Prefixed<'s>,
+    shell: &mut Shell<'s>,
+) -> Result<Flow, Halt>
+    requires { shell.old.outside.rows ≡ setting.now.world.now.rows }
+    ensures { Does flow_of (turns.prefixed_run (setting_of setting.now) (prefixed_of command.entry)) shell.old shell.new result }
+{
+    match command {
+        Prefixed::Builtin(place, assigns, words, argv) => {
+            builtin(setting, place, assigns, words, argv.as_slice(), shell)
+        }
+        Prefixed::External(argv) => external(&argv, shell),
+    }
+}
+
+/// A command behind its prefix, which is gone behind it.
+pub fn prefixed<'s>(
+    setting: &Setting<'s>,
+    command: Prefixed<'s>,
+    before: List<(Text, Option<Variable>)>,
+    shell: &mut Shell<'s>,
+) -> Result<Flow, Halt>
+    requires { shell.old.outside.rows ≡ setting.now.world.now.rows }
+    ensures { Does flow_of (simple.command_over (turns.prefixed_run (setting_of setting.now) (prefixed_of command.entry)) (saved_of before)) shell.old shell.new result }
+{
+    let flow = run_prefixed(setting, command, shell)?;
+    restore(before, &mut shell.own.env.vars)?;
+    Ok(flow)
+}
+
 /// The script's name, which a function's body keeps as `$0`.
 fn script_name(alloc: Global, params: &[Text]) -> Result<Text, Memory>
     ensures { IfOk result (λ name. name ≡ owns.script_name params.now) }
@@ -234,7 +309,7 @@ fn called<'s>(
 }
 
 /// A function is called: a turn is taken first, and then a level.
-pub fn call<'s>(
+fn call<'s>(
     body: &'s Command,
     argv: List<Text>,
     frames: &mut Frames<'s>,
@@ -247,7 +322,7 @@ pub fn call<'s>(
 }
 
 /// The assignments of a command without a name.
-pub fn assigning<'s>(
+fn assigning<'s>(
     assigns: &'s [Assign],
     ran: bool,
     frames: &mut Frames<'s>,
@@ -261,7 +336,7 @@ pub fn assigning<'s>(
 }
 
 /// The prefix of a command.
-pub fn prefixing<'s>(
+fn prefixing<'s>(
     assigns: &'s [Assign],
     command: Prefixed<'s>,
     frames: &mut Frames<'s>,
@@ -272,4 +347,64 @@ pub fn prefixing<'s>(
     frames.push(Frame::Saved(SavedFrame::Prefixed(command)))?;
     frames.push(Frame::Saved(SavedFrame::Prefix(assigns)))?;
     Ok(Payload::Saved(List::new(shell.alloc)))
+}
+
+/// A command whose redirections are made.
+fn run<'s>(
+    setting: &Setting<'s>,
+    job: Job<'s>,
+    ran: bool,
+    frames: &mut Frames<'s>,
+    shell: &mut Shell<'s>,
+) -> Result<Payload, Halt>
+    ensures { Turns (setting_of setting.now) (λ call. turns.job_run (setting_of setting.now) call (job_of job.entry) ran) to_ended frames.old frames.new shell.old shell.new result }
+{
+    match job {
+        Job::Assigning(assigns) => assigning(assigns, ran, frames, shell),
+        Job::Special(place, assigns, words, argv) => {
+            let argv = argv.as_slice();
+            let flow = builtin(setting, place, assigns, words, argv, shell)?;
+            Ok(Payload::Ended(flow))
+        }
+        Job::Called(body, argv) => call(body, argv, frames, shell),
+        Job::Prefixed(assigns, command) => prefixing(assigns, command, frames, shell),
+        Job::Compound(place, kind) => compound(place, kind, frames, shell),
+    }
+}
+
+/// A redirection failed: the status is the latitude's.
+fn refuse<'s>(setting: &Setting<'s>, shell: &mut Shell<'s>) -> Result<Flow, Halt>
+    ensures { Does flow_of (meaning.failed_run (setting_of setting.now).world) shell.old shell.new result }
+{
+    shell.own.env.status = setting.world.latitude.redirect;
+    Ok(Flow::Normal)
+}
+
+/// One of a command's redirections failed; of a special built-in nothing is said.
+fn fail<'s>(setting: &Setting<'s>, job: Job<'s>, shell: &mut Shell<'s>) -> Result<Flow, Halt>
+    ensures { Does flow_of (turns.job_failed (setting_of setting.now) (job_of job.entry)) shell.old shell.new result }
+{
+    match job {
+        Job::Special(..) => Err(Halt::Unspecified),
+        Job::Assigning(_) => refuse(setting, shell),
+        Job::Called(..) => refuse(setting, shell),
+        Job::Prefixed(..) => refuse(setting, shell),
+        Job::Compound(..) => refuse(setting, shell),
+    }
+}
+
+/// A command behind its redirections.
+pub fn job<'s>(
+    setting: &Setting<'s>,
+    job: Job<'s>,
+    made: Made,
+    frames: &mut Frames<'s>,
+    shell: &mut Shell<'s>,
+) -> Result<Payload, Halt>
+    ensures { Turns (setting_of setting.now) (λ call. redirecting.made_or (turns.job_run (setting_of setting.now) call (job_of job.entry)) (turns.job_failed (setting_of setting.now) (job_of job.entry)) (made_of made)) to_ended frames.old frames.new shell.old shell.new result }
+{
+    match made {
+        Made::Done(ran) => run(setting, job, ran, frames, shell),
+        Made::Failed => Ok(Payload::Ended(fail(setting, job, shell)?)),
+    }
 }
