@@ -123,14 +123,8 @@ fn named<'s>(
             begin(job, redirects, ran, frames, shell)
         }
         Lookup::Builtin => {
-            let command = Prefixed::Builtin(place, assigns, words, texts);
-            begin(
-                Job::Prefixed(assigns, command),
-                redirects,
-                ran,
-                frames,
-                shell,
-            )
+            let job = Job::Prefixed(assigns, Prefixed::Builtin(place, assigns, words, texts));
+            begin(job, redirects, ran, frames, shell)
         }
         Lookup::Function(body) => {
             if is_led(assigns) {
@@ -139,14 +133,8 @@ fn named<'s>(
             begin(Job::Called(body, texts), redirects, ran, frames, shell)
         }
         Lookup::External => {
-            let command = Prefixed::External(texts);
-            begin(
-                Job::Prefixed(assigns, command),
-                redirects,
-                ran,
-                frames,
-                shell,
-            )
+            let job = Job::Prefixed(assigns, Prefixed::External(texts));
+            begin(job, redirects, ran, frames, shell)
         }
         Lookup::Foreign => Err(Halt::Unspecified),
     }
