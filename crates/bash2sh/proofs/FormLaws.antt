@@ -12,7 +12,7 @@ use Rattle.bash_tree.specs.declared.tree.CommandKind.{CommandKind}
 use Rattle.bash_tree.specs.declared.tree.CommandKind.TheVariants.{Simple}
 use Rattle.bash_tree.specs.Shape.{simple, no_assign, no_word}
 use Rattle.bash_tree.specs.View.{view_part, view_word, view_value, parts_of, words_of, assigns_of, command_of, assigns_in, words_in}
-use Rattle.bash2sh.specs.Form.{parts_form, texts_of, word_form, words_form, name_form, is_free_name, value_form, command_form, appends, command_appends}
+use Rattle.bash2sh.specs.Form.{parts_form, texts_of, word_form, words_form, name_form, is_free_name, value_form, command_form}
 
 pub forms_are : (f : shape.Part → Bool) (ps : List Part) → parts_form f (parts_of (map view_part ps)) ≡ list_all (λ p. f (view_part p)) ps
 forms_are f [] = refl
@@ -62,11 +62,3 @@ some_assigns (Simple [] ws) e = absurd cc
 some_assigns (Simple (a ∷ as') []) e = refl
 some_assigns (Simple (a ∷ []) (w ∷ ws)) e = rw (not_nothing (length ws)) refl
 some_assigns (Simple (a ∷ b ∷ as') (w ∷ ws)) e = rw (not_nothing (length ws)) refl
-
-any_appends : (as' : List Assign) → appends (assigns_of as') ≡ list_any (λ a. a.append) as'
-any_appends [] = refl
-any_appends (a ∷ as') = ap (λ b. a.append || b) (any_appends as')
-
--- something is appended
-pub appends_is : (k : CommandKind) → command_appends (command_of k) ≡ list_any (λ a. a.append) (assigns_in k)
-appends_is (Simple as' ws) = any_appends as'

@@ -11,8 +11,6 @@ use Rattle.sh_tree.specs.Shape as sh
 use Rattle.sh_tree.specs.Spelling.{is_bare_keyword}
 use Rattle.sh_tree.specs.Printing.{is_something, begins_plain, goes_on_name, quoted_printable, parts_printable, word_printable, words_printable, value_printable, command_printable, script_printable}
 use Rattle.bash2sh.specs.Form.{is_free_command, name_form, words_form, command_form}
-use Rattle.bash2sh.specs.declared.language.Language.{Language}
-use Rattle.bash2sh.proofs.LineLaws.{taken_form}
 use Rattle.bash2sh.specs.Spelling.{QuotedPartsAt, PartsAt, WordAt, WordsAt, ValueAt, sign, CommandAt, LinesAt, Reads}
 use Rattle.bash2sh.specs.Lower.{lower_parts, lower_words, lower_value, lower_command, lower}
 use Rattle.bash2sh.proofs.Tools.{both, test_of}
@@ -149,13 +147,13 @@ command_prints (simple (assign name append v (assign name' append' v' more)) ws)
 
 -- ---- scripts
 
-pub lowered_printable : (k : Language) (ls : List (List ℕ)) (s : Script) → LinesAt k ls s → script_printable (lower s) ≡ true
-lowered_printable k [] no_item h = refl
-lowered_printable k [] (item c more) h = absurd h
-lowered_printable k [] (background_item c more) h = absurd h
-lowered_printable k (l ∷ ls) s (inl h) = lowered_printable k ls s h.1
-lowered_printable k (l ∷ ls) s (inr h) =
-    subst (λ (x : Script). script_printable (lower x) ≡ true) (sym h.2) (and_2 (command_prints h.0 h.3.1 h.3.3 (taken_form k h.0 h.3.4)) (lowered_printable k ls h.1 h.4))
+pub lowered_printable : (ls : List (List ℕ)) (s : Script) → LinesAt ls s → script_printable (lower s) ≡ true
+lowered_printable [] no_item h = refl
+lowered_printable [] (item c more) h = absurd h
+lowered_printable [] (background_item c more) h = absurd h
+lowered_printable (l ∷ ls) s (inl h) = lowered_printable ls s h.1
+lowered_printable (l ∷ ls) s (inr h) =
+    subst (λ (x : Script). script_printable (lower x) ≡ true) (sym h.2) (and_2 (command_prints h.0 h.3.1 h.3.3 h.3.4) (lowered_printable ls h.1 h.4))
 
-pub reads_printable : (k : Language) (text : List ℕ) (s : Script) → Reads k text s → script_printable (lower s) ≡ true
-reads_printable k text s h = lowered_printable k (slice_split is_newline text) s h
+pub reads_printable : (text : List ℕ) (s : Script) → Reads text s → script_printable (lower s) ≡ true
+reads_printable text s h = lowered_printable (slice_split is_newline text) s h

@@ -10,24 +10,22 @@ use Rattle.sh_tree.specs.Spelling.{Reads as ShReads}
 use Rattle.sh_tree.specs.Printing.{script_text, script_printable}
 use Rattle.bash2sh.specs.Lower.{lower}
 use Rattle.bash2sh.specs.SameMeaning.{SameMeaning}
-use Rattle.bash2sh.specs.declared.language.Language.{Language}
-use Rattle.bash2sh.specs.declared.language.Language.TheVariants.{Bash}
 use Rattle.bash2sh.specs.Spelling.{Reads, IsFirstBad, total}
 use Rattle.bash2sh.specs.Translation.{IsTranslated}
 use Rattle.bash2sh.proofs.LineLaws.{form_of_lines}
 use Rattle.bash2sh.proofs.Meaning.{same_meaning}
 use Rattle.bash2sh.proofs.Printable.{reads_printable}
 
-pub can_print : (text : List ℕ) (s : BashScript) (t : ShScript) → Reads Bash text s → t ≡ lower s → script_printable t ≡ true
-can_print text s t h e = ap script_printable e ∙ reads_printable Bash text s h
+pub can_print : (text : List ℕ) (s : BashScript) (t : ShScript) → Reads text s → t ≡ lower s → script_printable t ≡ true
+can_print text s t h e = ap script_printable e ∙ reads_printable text s h
 
-pub is_translated : (text : List ℕ) (s : BashScript) (t : ShScript) → Reads Bash text s → t ≡ lower s → ShReads (script_text t) t → IsTranslated text (script_text t)
+pub is_translated : (text : List ℕ) (s : BashScript) (t : ShScript) → Reads text s → t ≡ lower s → ShReads (script_text t) t → IsTranslated text (script_text t)
 is_translated text s t h e back = record {
   bash = s;
   spelled = h;
   sh = t;
   reads = back;
-  same = subst (λ (x : ShScript). SameMeaning s x) (sym e) (same_meaning s (form_of_lines Bash (slice_split is_newline text) s h));
+  same = subst (λ (x : ShScript). SameMeaning s x) (sym e) (same_meaning s (form_of_lines (slice_split is_newline text) s h));
 }
 
 -- ---- the place of a refusal lies in its text
@@ -51,8 +49,8 @@ total_behind : (ls ms : List (List ℕ)) → total (ls ++ ms) ≡ total ls + tot
 total_behind [] ms = omega arith
 total_behind (l ∷ ls) ms = omega (arith, total_behind ls ms)
 
-pub place_within : (k : Language) (text : List ℕ) (place : ℕ) → IsFirstBad k text place → place ≤ length text
-place_within k text place f =
+pub place_within : (text : List ℕ) (place : ℕ) → IsFirstBad text place → place ≤ length text
+place_within text place f =
     let a = total_split text in
     let b : total (slice_split is_newline text) ≡ total (f.before ++ f.line ∷ f.behind) = ap total f.lines in
     let c = total_behind f.before (f.line ∷ f.behind) in

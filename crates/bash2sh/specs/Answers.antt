@@ -3,6 +3,8 @@ use Rattle.std.specs.Prelude.{◌≡◌, ℕ, ◌+◌, ◌≤◌, List, [], ◌�
 use Rattle.span_text.specs.Streams.{Rose, Grows, Falls}
 use Rattle.world_json.specs.declared.fault.Reason.{Reason}
 use Rattle.world_json.specs.Judging.{reason_word}
+use Rattle.bash2sh.specs.declared.messages.Refusal.{Refusal}
+use Rattle.bash2sh.specs.declared.messages.Refusal.TheVariants as refusal
 use Rattle.bash2sh.specs.declared.input.InputFault.{InputFault}
 use Rattle.bash2sh.specs.declared.input.InputFault.TheVariants as input
 
@@ -38,9 +40,18 @@ GivesInput most before later faults now (Err input.TooLong) = (taken : List ℕ)
 abbrev pub Said : Option (List ℕ) → Option (List ℕ) → ℕ → ℕ → List ℕ → Type 0
 Said before later faults now line = (Grows before later line × (faults ≤ now)) ⊎ (Falls before later line × (faults ≤ now) × Rose faults now)
 
+-- why a script is refused, as a word
+abbrev pub refusal_word : Refusal → List ℕ
+refusal_word refusal.ShSyntax = codes "sh-syntax"
+refusal_word refusal.NotYet = codes "not-yet"
+
+-- `: not-yet`, and the end of the line
+abbrev pub refusal_tail : Refusal → List ℕ
+refusal_tail r = codes ": " ++ (refusal_word r ++ 10 ∷ [])
+
 -- `bash2sh: 2:1: not-yet`
-abbrev pub refused_line : ℕ → ℕ → List ℕ
-refused_line line column = codes "bash2sh: " ++ decimal line ++ 58 ∷ decimal column ++ codes ": not-yet\n"
+abbrev pub refused_line : Refusal → ℕ → ℕ → List ℕ
+refused_line r line column = codes "bash2sh: " ++ ((decimal line ++ 58 ∷ decimal column) ++ refusal_tail r)
 
 -- `bash2sh: /env/__bs_q: reserved`
 abbrev pub bad_world_line : List ℕ → Reason → List ℕ

@@ -1,7 +1,5 @@
 -- The scripts that are taken today: each command is one assignment, or a literal name that no shell knows with its arguments.
 use Rattle.std.specs.Prelude.{ℕ, Bool, true, false, not, ◌&&◌, ◌||◌, List, [], ◌++◌}
-use Rattle.bash2sh.specs.declared.language.Language.{Language}
-use Rattle.bash2sh.specs.declared.language.Language.TheVariants.{Bash, Sh}
 use Rattle.span_text.specs.Names.{is_reserved}
 use Rattle.span_text.specs.KnownNames.{is_known_command, is_special_name}
 use Rattle.bash_tree.specs.Shape.{Part, plain, exact, double, param, Parts, no_part, part, Words, no_word, word, Value, no_value, value, Assigns, no_assign, assign, Command, simple, Stages, no_stage, stage, Pipeline, pipeline, no_link, and_link, or_link, Chain, chain, Script, no_item, item, background_item}
@@ -75,7 +73,7 @@ literal_text ps = texts_of literal_part_text ps
 
 -- ---- commands
 
--- the name of a command that the table answers in both languages
+-- the name of a command that the table answers
 abbrev pub is_free_command : List ℕ → Bool
 is_free_command name = not (is_known_command name || is_reserved name)
 
@@ -88,19 +86,6 @@ command_form (simple no_assign (word w ws)) = name_form w && words_form ws
 command_form (simple (assign name append v no_assign) no_word) = is_free_name name && value_form v
 command_form (simple (assign name append v no_assign) (word w ws)) = false
 command_form (simple (assign name append v (assign name' append' v' more)) ws) = false
-
--- `+=` stands only in Bash
-abbrev pub appends : Assigns → Bool
-appends no_assign = false
-appends (assign name append v more) = append || appends more
-
-abbrev pub command_appends : Command → Bool
-command_appends (simple as' ws) = appends as'
-
--- whether a command is taken in a script of this language
-abbrev pub takes : Language → Command → Bool
-takes Bash c = command_form c
-takes Sh c = command_form c && not (command_appends c)
 
 abbrev pub stages_form : Stages → Bool
 stages_form no_stage = false

@@ -6,9 +6,13 @@ use Rattle.shell_world.specs.declared.world.World.{World}
 use Rattle.shell_world.specs.declared.world.Report.{Report}
 use Rattle.shell_world.specs.declared.world.End.{End}
 use Rattle.shell_world.specs.declared.world.End.TheVariants as end
+use Rattle.shell_world.specs.Texts.{Text}
 use Rattle.bash_tree.specs.Shape.{Script}
 use Rattle.bash_meaning.specs.Meaning.{report as bash_report}
-use Rattle.sh_meaning.specs.Meaning.{report as sh_report}
+use Rattle.sh_grammar.specs.Shape as sh
+use Rattle.sh_grammar.specs.Spelling.{IsErrorAt}
+use Rattle.sh_grammar.specs.Spelling.{Reads as ShReads}
+use Rattle.sh_meaning.specs.Running.{report as sh_report}
 use Rattle.world_json.specs.declared.job.Job.{Job}
 use Rattle.world_json.specs.declared.fault.Reason.{Reason}
 use Rattle.world_json.specs.Judging.{Good, Bad}
@@ -16,10 +20,10 @@ use Rattle.world_json.specs.Jobs.{job_of}
 use Rattle.world_json.specs.Reports.{report_text_of}
 use Rattle.bash2sh.specs.declared.language.Language.{Language}
 use Rattle.bash2sh.specs.declared.language.Language.TheVariants.{Bash, Sh}
+use Rattle.bash2sh.specs.declared.messages.Refusal.TheVariants as refusal
 use Rattle.bash2sh.specs.declared.status.Status.{Status}
 use Rattle.bash2sh.specs.declared.status.Status.TheVariants as status
 use Rattle.bash2sh.specs.Answers.{limit, large_limit, refused_line, bad_world_line}
-use Rattle.bash2sh.specs.Lower.{lower}
 use Rattle.bash2sh.specs.Spelling.{Reads}
 use Rattle.bash2sh.specs.Translation.{IsRefused}
 use Rattle.bash2sh.specs.Sinks.{Sinks, Line}
@@ -28,11 +32,6 @@ use Rattle.bash2sh.specs.Sinks.{Sinks, Line}
 abbrev pub script_limit : Language → ℕ
 script_limit Bash = limit
 script_limit Sh = large_limit
-
--- What a run of the script reports. A line of sh is spelled as in Bash, and its tree is the one that it is lowered to.
-abbrev pub report_in : Language → World → Script → Report
-report_in Bash world s = bash_report world s
-report_in Sh world s = sh_report world (lower s)
 
 -- the status of a run that ended so, once its report is written
 abbrev pub status_of : End → Status
@@ -62,25 +61,53 @@ OnReport b a r status.ReadFault = ⊥
 OnReport b a r status.BadWorld = ⊥
 OnReport b a r status.TooLong = ⊥
 
--- the script is of the language, and this is the report of its run in the world
-abbrev pub Runs : Language → Job → Sinks → Sinks → Status → Type 0
-Runs language job b a s = (script : Script) × Reads language job.script script × OnReport b a (report_in language job.world script) s
+-- ---- scripts of Bash
+
+-- the text spells a script of Bash, and this is the report of its run in the world
+abbrev pub RunsBash : Job → Sinks → Sinks → Status → Type 0
+RunsBash job b a s = (script : Script) × Reads job.script script × OnReport b a (bash_report job.world script) s
+
+abbrev pub OnBashJob : Job → Sinks → Sinks → Status → Type 0
+OnBashJob job b a status.Done = RunsBash job b a status.Done
+OnBashJob job b a status.GoesOn = RunsBash job b a status.GoesOn
+-- a Bash script always has a meaning
+OnBashJob job b a status.Unspecified = ⊥
+OnBashJob job b a status.WriteFault = RunsBash job b a status.WriteFault
+OnBashJob job b a status.OutOfMemory = (a.held ≡ b.held) × Line b a (codes "bash2sh: out of memory\n")
+OnBashJob job b a status.Refused =
+    (place : ℕ) × IsRefused job.script place × (a.held ≡ b.held) × Line b a (refused_line refusal.NotYet (line_of job.script place) (column_of job.script place))
+OnBashJob job b a status.Usage = ⊥
+OnBashJob job b a status.ReadFault = ⊥
+OnBashJob job b a status.BadWorld = ⊥
+OnBashJob job b a status.TooLong = ⊥
+
+-- ---- scripts of sh
+
+-- the text spells a script of sh, and this is the report of its run in the world
+abbrev pub RunsSh : Job → Sinks → Sinks → Status → Type 0
+RunsSh job b a s = (script : sh.Script) × ShReads job.script script × OnReport b a (sh_report job.world script) s
+
+-- the text spells no script of sh, and here it stops being one
+abbrev pub IsRefusedSh : Text → ℕ → Type 0
+IsRefusedSh text place = ((script : sh.Script) → ShReads text script → ⊥) × IsErrorAt text place
+
+abbrev pub OnShJob : Job → Sinks → Sinks → Status → Type 0
+OnShJob job b a status.Done = RunsSh job b a status.Done
+OnShJob job b a status.GoesOn = RunsSh job b a status.GoesOn
+OnShJob job b a status.Unspecified = RunsSh job b a status.Unspecified
+OnShJob job b a status.WriteFault = RunsSh job b a status.WriteFault
+OnShJob job b a status.OutOfMemory = (a.held ≡ b.held) × Line b a (codes "bash2sh: out of memory\n")
+OnShJob job b a status.Refused =
+    (place : ℕ) × IsRefusedSh job.script place × (a.held ≡ b.held) × Line b a (refused_line refusal.ShSyntax (line_of job.script place) (column_of job.script place))
+OnShJob job b a status.Usage = ⊥
+OnShJob job b a status.ReadFault = ⊥
+OnShJob job b a status.BadWorld = ⊥
+OnShJob job b a status.TooLong = ⊥
 
 -- how it ends once there is a job
 abbrev pub OnGoodJob : Language → Job → Sinks → Sinks → Status → Type 0
-OnGoodJob language job b a status.Done = Runs language job b a status.Done
-OnGoodJob language job b a status.GoesOn = Runs language job b a status.GoesOn
--- a Bash script always has a meaning
-OnGoodJob Bash job b a status.Unspecified = ⊥
-OnGoodJob Sh job b a status.Unspecified = Runs Sh job b a status.Unspecified
-OnGoodJob language job b a status.WriteFault = Runs language job b a status.WriteFault
-OnGoodJob language job b a status.OutOfMemory = (a.held ≡ b.held) × Line b a (codes "bash2sh: out of memory\n")
-OnGoodJob language job b a status.Refused =
-    (place : ℕ) × IsRefused language job.script place × (a.held ≡ b.held) × Line b a (refused_line (line_of job.script place) (column_of job.script place))
-OnGoodJob language job b a status.Usage = ⊥
-OnGoodJob language job b a status.ReadFault = ⊥
-OnGoodJob language job b a status.BadWorld = ⊥
-OnGoodJob language job b a status.TooLong = ⊥
+OnGoodJob Bash job b a s = OnBashJob job b a s
+OnGoodJob Sh job b a s = OnShJob job b a s
 
 -- how it ends once the bytes are there
 abbrev pub OnJob : Language → Sinks → Sinks → List ℕ → Status → Type 0

@@ -7,8 +7,7 @@ use Rattle.bash_tree.specs.Shape.{Part, plain, exact, double, param, Words, no_w
 use Rattle.bash_tree.specs.View.{parts_of}
 use Rattle.bash2sh.specs.declared.fault.Stop.{Stop}
 use Rattle.bash2sh.specs.declared.fault.Stop.TheVariants as stop
-use Rattle.bash2sh.specs.declared.language.Language.{Language}
-use Rattle.bash2sh.specs.Form.{takes}
+use Rattle.bash2sh.specs.Form.{command_form}
 
 infixl 10 ◌>>=◌
 abbrev pub ◌>>=◌ : {A B : Type 0} → Option A → (A → Option B) → Option B
@@ -120,18 +119,18 @@ command_at bytes = if starts begins_name bytes then by_sign (run_at continues_na
 
 -- ---- lines: nothing where the line isn't taken, and else its command, where it has one
 
-abbrev pub of_form : Language → Command → Option (Option Command)
-of_form k c = if takes k c then Some (Some c) else None
+abbrev pub of_form : Command → Option (Option Command)
+of_form c = if command_form c then Some (Some c) else None
 
-abbrev pub taken_at : Language → List ℕ → Option (Option Command)
-taken_at k bytes = command_at bytes >>= of_form k
+abbrev pub taken_at : List ℕ → Option (Option Command)
+taken_at bytes = command_at bytes >>= of_form
 
-unfoldable pub front_at : Language → List ℕ → Option (Option Command)
-front_at k [] = Some None
-front_at k (b ∷ rest) = if b == 35 then (if list_all is_comment_byte rest then Some None else None) else taken_at k (b ∷ rest)
+unfoldable pub front_at : List ℕ → Option (Option Command)
+front_at [] = Some None
+front_at (b ∷ rest) = if b == 35 then (if list_all is_comment_byte rest then Some None else None) else taken_at (b ∷ rest)
 
-unfoldable pub line_at : Language → List ℕ → Option (Option Command)
-line_at k line = front_at k (run_at is_blank line).1
+unfoldable pub line_at : List ℕ → Option (Option Command)
+line_at line = front_at (run_at is_blank line).1
 
 infixl 10 ◌>>◌
 abbrev pub ◌>>◌ : {A B : Type 0} → Result A ℕ → (A → Result B ℕ) → Result B ℕ
@@ -147,9 +146,9 @@ abbrev pub by_line : ℕ → List ℕ → Option (Option Command) → Result (Li
 by_line at line None next = Err (at + length (run_at is_blank line).0)
 by_line at line (Some c) next = next >> λ cs. Ok (put c cs)
 
-unfoldable pub lines_at : Language → ℕ → List (List ℕ) → Result (List Command) ℕ
-lines_at k at [] = Ok []
-lines_at k at (l ∷ ls) = by_line at l (line_at k l) (lines_at k (at + length l + 1) ls)
+unfoldable pub lines_at : ℕ → List (List ℕ) → Result (List Command) ℕ
+lines_at at [] = Ok []
+lines_at at (l ∷ ls) = by_line at l (line_at l) (lines_at (at + length l + 1) ls)
 
 abbrev pub script_from : List Command → Script
 script_from [] = no_item

@@ -4,6 +4,7 @@ use Rattle.span_text.specs.Streams.{Rose, Grows, Falls}
 use Rattle.span_text.specs.Places.{line_of, column_of}
 use Rattle.span_text.specs.KnownNames.{same_text}
 use Rattle.bash2sh.specs.Answers.{limit, large_limit, Took, Over, refused_line}
+use Rattle.bash2sh.specs.declared.messages.Refusal.TheVariants.{NotYet}
 use Rattle.bash2sh.specs.Sinks.{Sinks, Line}
 use Rattle.bash2sh.specs.Jobs.{OnJob}
 use Rattle.bash2sh.specs.declared.language.Language.TheVariants.{Bash, Sh}
@@ -45,7 +46,7 @@ limit_of (Run language) = large_limit
 -- how the translation of a text ends
 abbrev pub OnText : Sinks → Sinks → List ℕ → Status → Type 0
 OnText b a text status.Done = (written : List ℕ) × IsTranslated text written × Grows b.held a.held written × (a.said ≡ b.said)
-OnText b a text status.Refused = (place : ℕ) × IsRefused Bash text place × (a.held ≡ b.held) × Line b a (refused_line (line_of text place) (column_of text place))
+OnText b a text status.Refused = (place : ℕ) × IsRefused text place × (a.held ≡ b.held) × Line b a (refused_line NotYet (line_of text place) (column_of text place))
 OnText b a text status.WriteFault = (written : List ℕ) × IsTranslated text written × Falls b.held a.held written × Rose b.write_faults a.write_faults × Line b a (codes "bash2sh: write fault\n")
 OnText b a text status.OutOfMemory = (a.held ≡ b.held) × Line b a (codes "bash2sh: out of memory\n")
 OnText b a text status.Usage = ⊥

@@ -4,8 +4,7 @@ use Rattle.std.specs.List.{slice_split}
 use Rattle.span_text.specs.Names.{begins_name, continues_name}
 use Rattle.span_text.specs.Scanning.{starts, Each, Run, is_newline, is_blank, is_plain_byte, is_exact_byte, is_quoted_byte, is_comment_byte, ends_word}
 use Rattle.bash_tree.specs.Shape.{Part, plain, exact, double, param, Parts, no_part, part, Words, no_word, word, Value, no_value, value, no_assign, assign, Command, simple, Script, no_item, item, background_item, alone}
-use Rattle.bash2sh.specs.declared.language.Language.{Language}
-use Rattle.bash2sh.specs.Form.{takes}
+use Rattle.bash2sh.specs.Form.{command_form}
 
 -- ---- words (3.1.2): each relation says that from these bytes on the text spells the node, up to the rest
 
@@ -67,24 +66,24 @@ abbrev pub IsIdle : List ℕ → Type 0
 IsIdle line = (gap : List ℕ) × (rest : List ℕ) × Run is_blank gap line rest × ((rest ≡ []) ⊎ ((text : List ℕ) × (rest ≡ 35 ∷ text) × Each is_comment_byte text))
 
 -- a command of a form that is taken, with blanks around it
-abbrev pub IsCommandLine : Language → Command → List ℕ → Type 0
-IsCommandLine k c line = (gap : List ℕ) × (first : List ℕ) × Run is_blank gap line first × CommandAt c first × (takes k c ≡ true)
+abbrev pub IsCommandLine : Command → List ℕ → Type 0
+IsCommandLine c line = (gap : List ℕ) × (first : List ℕ) × Run is_blank gap line first × CommandAt c first × (command_form c ≡ true)
 
 -- each line is idle, or the next command
-abbrev pub LinesAt : Language → List (List ℕ) → Script → Type 0
-LinesAt k [] no_item = Unit {0}
-LinesAt k [] (item c more) = ⊥
-LinesAt k [] (background_item c more) = ⊥
-LinesAt k (l ∷ ls) s = (IsIdle l × LinesAt k ls s) ⊎ ((c : Command) × (more : Script) × (s ≡ item (alone c) more) × IsCommandLine k c l × LinesAt k ls more)
+abbrev pub LinesAt : List (List ℕ) → Script → Type 0
+LinesAt [] no_item = Unit {0}
+LinesAt [] (item c more) = ⊥
+LinesAt [] (background_item c more) = ⊥
+LinesAt (l ∷ ls) s = (IsIdle l × LinesAt ls s) ⊎ ((c : Command) × (more : Script) × (s ≡ item (alone c) more) × IsCommandLine c l × LinesAt ls more)
 
--- THE GRAMMAR: the whole text spells this script of the language, and each of its commands is of a form that is taken
-abbrev pub Reads : Language → List ℕ → Script → Type 0
-Reads k text s = LinesAt k (slice_split is_newline text) s
+-- THE GRAMMAR: the whole text spells this script, and each of its commands is of a form that is taken
+abbrev pub Reads : List ℕ → Script → Type 0
+Reads text s = LinesAt (slice_split is_newline text) s
 
 -- no command of a form that is taken stands on the line, and something stands there
-pub record IsBadLine (k : Language) (line : List ℕ) : Type 0 where
+pub record IsBadLine (line : List ℕ) : Type 0 where
   pub no_idle : ¬ IsIdle line
-  pub no_command : (c : Command) → ¬ IsCommandLine k c line
+  pub no_command : (c : Command) → ¬ IsCommandLine c line
 
 -- how many bytes the lines take, each with its newline
 abbrev pub total : List (List ℕ) → ℕ
@@ -92,13 +91,13 @@ total [] = 0
 total (l ∷ ls) = length l + 1 + total ls
 
 -- the place is that of the first byte that is no blank of the first line that isn't taken
-pub record IsFirstBad (k : Language) (text : List ℕ) (place : ℕ) : Type 0 where
+pub record IsFirstBad (text : List ℕ) (place : ℕ) : Type 0 where
   pub before : List (List ℕ)
   pub line : List ℕ
   pub behind : List (List ℕ)
   pub lines : slice_split is_newline text ≡ before ++ line ∷ behind
-  pub taken : (s : Script) × LinesAt k before s
-  pub bad : IsBadLine k line
+  pub taken : (s : Script) × LinesAt before s
+  pub bad : IsBadLine line
   pub gap : List ℕ
   pub first : List ℕ
   pub blanks : Run is_blank gap line first

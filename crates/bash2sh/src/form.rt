@@ -1,13 +1,12 @@
 //! Whether a command is of a form that is taken.
 
 ghost use Rattle.std.specs.Prelude.{◌≡◌, ◌++◌, ◌&&◌, [], map, length, ◌<◌, IfOk, OnOk};
-ghost use Rattle.std.specs.List.{list_all, list_any, flat_map};
+ghost use Rattle.std.specs.List.{list_all, flat_map};
 ghost use Rattle.bash_tree.specs.View.{view_part, name_of_param, parts_of, view_word, words_of, value_of, view_value, assigns_of, command_of};
 ghost use Rattle.bash_tree.specs.Shape.{simple, no_assign, no_word};
 ghost use Rattle.bash2sh.specs.Form as form;
 ghost use Rattle.bash2sh.specs.Views.{parts_seen};
 
-use crate::language::Language;
 use bash_tree::{Assign, AssignValue, CommandKind, Param, Part, PartKind, Word};
 use span_text::{Memory, Text, is_known_command, is_reserved, is_special_name};
 use std::alloc::Global;
@@ -215,23 +214,4 @@ pub fn is_taken(alloc: Global, kind: &CommandKind) -> Result<bool, Memory>
         return call_form(alloc, kind.words());
     }
     Ok(kind.words().is_empty() && assigns_form(kind.assigns()))
-}
-
-/// Whether one of the assignments appends.
-fn appends(assigns: &[Assign]) -> bool
-    ensures { result ≡ list_any (λ a. a.append) assigns.now }
-{
-    assigns.iter().any(|assign| assign.append)
-}
-
-/// Whether the command is taken in a script of this language: in sh nothing is appended.
-#[tactic(auto, using(crate::proofs::FormLaws::appends_is))]
-pub fn is_taken_in(alloc: Global, language: Language, kind: &CommandKind) -> Result<bool, Memory>
-    ensures { IfOk result (λ b. b ≡ form.takes language (command_of kind.now)) }
-{
-    let taken = is_taken(alloc, kind)?;
-    match language {
-        Language::Bash => Ok(taken),
-        Language::Sh => Ok(taken && !appends(kind.assigns())),
-    }
 }

@@ -15,7 +15,7 @@ fn sink(alloc: Global) -> Result<MemorySink, Fail> {
 }
 
 /// What a command gives for these bytes: its status, the text on `out` and the line on `err`.
-fn given(alloc: Global, asked: &str, bytes: &[u8]) -> Result<(Status, Text, Text), Fail> {
+pub fn given(alloc: Global, asked: &str, bytes: &[u8]) -> Result<(Status, Text, Text), Fail> {
     let mut words = Vec::new(alloc);
     words.push(String::from_str(alloc, asked)?)?;
     let text = Text::copy(alloc, bytes)?;
@@ -98,20 +98,42 @@ fn what_is_no_job_or_no_script_is_refused(rt: HostRuntime) -> Result<(), Fail> {
             Status::BadWorld,
             b"bash2sh: /latitude/redirect: range\n",
         ),
-        (b"script", Status::BadWorld, b"bash2sh: : json\n"),
         (
-            br#"{"script":"show a\n  show b;\n"}"#,
-            Status::Refused,
-            b"bash2sh: 2:3: not-yet\n",
+            br#"{"script":"show a\n\u0000"}"#,
+            Status::BadWorld,
+            b"bash2sh: /script: not-bytes\n",
         ),
+        (b"script", Status::BadWorld, b"bash2sh: : json\n"),
     ] {
         for asked in ["run-bash", "run-sh"] {
             gives(&rt, rt.alloc(), asked, job, (status, b"", line))?;
         }
     }
-    let job = br#"{"script":"x=1\nx+=2\n"}"#;
-    let line = b"bash2sh: 2:1: not-yet\n";
-    gives(&rt, rt.alloc(), "run-sh", job, (Status::Refused, b"", line))
+    Ok(())
+}
+
+#[test]
+fn what_is_no_script_is_refused_at_its_place(rt: HostRuntime) -> Result<(), Fail> {
+    for (asked, job, line) in [
+        (
+            "run-bash",
+            br#"{"script":"show a\n  show b;\n"}"#.as_slice(),
+            b"bash2sh: 2:3: not-yet\n".as_slice(),
+        ),
+        (
+            "run-sh",
+            br#"{"script":"if a"}"#,
+            b"bash2sh: 1:1: sh-syntax\n",
+        ),
+        (
+            "run-sh",
+            br#"{"script":"show a\n\n  b; }\n"}"#,
+            b"bash2sh: 3:3: sh-syntax\n",
+        ),
+    ] {
+        gives(&rt, rt.alloc(), asked, job, (Status::Refused, b"", line))?;
+    }
+    Ok(())
 }
 
 /// A job with this script, where `show` answers in two ways.

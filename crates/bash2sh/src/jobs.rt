@@ -1,19 +1,16 @@
 //! Runs the script of a job, and writes the report.
 
-ghost use Rattle.std.specs.Prelude.{◌≡◌, ◌≤◌, length, IfOk};
-ghost use Rattle.bash_tree.specs.View.{view};
+ghost use Rattle.std.specs.Prelude.{◌≡◌, ◌≤◌, length};
 ghost use Rattle.bash2sh.specs.Jobs as jobs;
 
 use crate::fault::ReadFault;
 use crate::input::{LARGE_LIMIT, LIMIT};
 use crate::language::Language;
 use crate::lines::read;
-use crate::lowering::lower;
-use crate::messages::{say_bad_world, say_out_of_memory, say_refused, say_write_fault};
+use crate::messages::{Refusal, say_bad_world, say_out_of_memory, say_refused, say_write_fault};
 use crate::status::Status;
-use bash_tree::Script;
-use shell_world::{End, Report, World};
-use span_text::{Memory, Sink, place_of, write_all};
+use shell_world::{End, Report};
+use span_text::{Sink, place_of, write_all};
 use std::alloc::Global;
 use world_json::{Job, JobFault, report_text};
 
@@ -23,24 +20,6 @@ fn script_limit(language: Language) -> u32
     match language {
         Language::Bash => LIMIT as u32,
         Language::Sh => LARGE_LIMIT as u32,
-    }
-}
-
-/// Runs a script in its world.
-fn report_of(
-    alloc: Global,
-    language: Language,
-    script: &Script,
-    world: World,
-) -> Result<Report, Memory>
-    ensures { IfOk result (λ r. r ≡ jobs.report_in language world (view script.now)) }
-{
-    match language {
-        Language::Bash => bash_interp::run(alloc, script, world),
-        Language::Sh => {
-            let lowered = lower(alloc, script)?;
-            sh_interp::run(alloc, &lowered, world)
-        }
     }
 }
 
@@ -77,6 +56,60 @@ fn write_report<K: Sink, E: Sink>(
     }
 }
 
+/// Runs a job's script of Bash.
+fn run_bash<K: Sink, E: Sink>(alloc: Global, job: Job, out: &mut K, err: &mut E) -> Status
+    requires { length job.script ≤ 16777216 }
+    ensures { jobs.OnBashJob job (record { held = K.held out.old; write_faults = K.faults out.old; said = E.held err.old; say_faults = E.faults err.old }) (record { held = K.held out.new; write_faults = K.faults out.new; said = E.held err.new; say_faults = E.faults err.new }) result }
+{
+    let Job { script, world } = job;
+    match read(alloc, script.bytes()) {
+        Ok(tree) => match bash_interp::run(alloc, &tree, world) {
+            Ok(report) => write_report(alloc, &report, out, err),
+            Err(_) => {
+                say_out_of_memory(err);
+                Status::OutOfMemory
+            }
+        },
+        Err(ReadFault::NotYet(at)) => {
+            say_refused(err, Refusal::NotYet, place_of(script.bytes(), at));
+            Status::Refused
+        }
+        Err(ReadFault::Memory) => {
+            say_out_of_memory(err);
+            Status::OutOfMemory
+        }
+    }
+}
+
+/// Runs a job's script of sh.
+fn run_sh<K: Sink, E: Sink>(alloc: Global, job: Job, out: &mut K, err: &mut E) -> Status
+    requires { length job.script ≤ 16777216 }
+    ensures { jobs.OnShJob job (record { held = K.held out.old; write_faults = K.faults out.old; said = E.held err.old; say_faults = E.faults err.old }) (record { held = K.held out.new; write_faults = K.faults out.new; said = E.held err.new; say_faults = E.faults err.new }) result }
+{
+    let Job { script, world } = job;
+    match sh_parser::read(alloc, script.bytes()) {
+        Ok(tree) => match sh_runner::run(alloc, &tree, world) {
+            Ok(report) => write_report(alloc, &report, out, err),
+            Err(_) => {
+                say_out_of_memory(err);
+                Status::OutOfMemory
+            }
+        },
+        Err(sh_parser::ReadFault::Unreadable(at)) => {
+            say_refused(
+                err,
+                Refusal::ShSyntax,
+                place_of(script.bytes(), at as usize),
+            );
+            Status::Refused
+        }
+        Err(sh_parser::ReadFault::Memory) => {
+            say_out_of_memory(err);
+            Status::OutOfMemory
+        }
+    }
+}
+
 /// Runs the script of a job.
 fn run_script<K: Sink, E: Sink>(
     alloc: Global,
@@ -88,23 +121,9 @@ fn run_script<K: Sink, E: Sink>(
     requires { length job.script ≤ 16777216 }
     ensures { jobs.OnGoodJob language job (record { held = K.held out.old; write_faults = K.faults out.old; said = E.held err.old; say_faults = E.faults err.old }) (record { held = K.held out.new; write_faults = K.faults out.new; said = E.held err.new; say_faults = E.faults err.new }) result }
 {
-    let Job { script, world } = job;
-    match read(alloc, language, script.bytes()) {
-        Ok(tree) => match report_of(alloc, language, &tree, world) {
-            Ok(report) => write_report(alloc, &report, out, err),
-            Err(_) => {
-                say_out_of_memory(err);
-                Status::OutOfMemory
-            }
-        },
-        Err(ReadFault::NotYet(at)) => {
-            say_refused(err, place_of(script.bytes(), at));
-            Status::Refused
-        }
-        Err(ReadFault::Memory) => {
-            say_out_of_memory(err);
-            Status::OutOfMemory
-        }
+    match language {
+        Language::Bash => run_bash(alloc, job, out, err),
+        Language::Sh => run_sh(alloc, job, out, err),
     }
 }
 

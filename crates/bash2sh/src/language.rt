@@ -4,6 +4,5 @@
 #[derive(Clone, Copy, Debug, PartialEq, Eq)]
 pub enum Language {
     Bash,
-    /// Without `+=`.
     Sh,
 }

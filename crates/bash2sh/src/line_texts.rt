@@ -7,12 +7,10 @@ ghost use Rattle.bash_tree.specs.View.{command_of};
 ghost use Rattle.sh_tree.specs.Printing.{command_printable};
 ghost use Rattle.bash2sh.specs.Lower.{lower_command};
 ghost use Rattle.bash2sh.specs.Model.{line_at, lines_at};
-ghost use Rattle.bash2sh.specs.declared.language.Language.TheVariants.{Bash};
 ghost use Rattle.bash2sh.specs.LineTexts.{text_from, PutsLine, GivesText};
 
 use crate::fault::{ReadFault, Stop};
 use crate::gather::TextSink;
-use crate::language::Language;
 use crate::lines::{first_line, item, line_of};
 use crate::lowering::lower;
 use crate::words::span;
@@ -42,9 +40,9 @@ fn put_command(
 
 /// Puts the sh text of a line that ends at the offset `end` of its text behind what was written.
 fn put_line(alloc: Global, line: &[u8], end: usize, written: &mut TextSink) -> Result<(), Stop>
-    ensures { PutsLine result (line_at Bash line.now) written.old.text written.new.text }
+    ensures { PutsLine result (line_at line.now) written.old.text written.new.text }
 {
-    match line_of(alloc, Language::Bash, line, end)? {
+    match line_of(alloc, line, end)? {
         None => Ok(()),
         Some(kind) => Ok(put_command(alloc, kind, span(end, line, &[]), written)?),
     }
@@ -52,7 +50,7 @@ fn put_line(alloc: Global, line: &[u8], end: usize, written: &mut TextSink) -> R
 
 /// The sh text of the script that this text spells.
 pub fn text_of(alloc: Global, text: &[u8]) -> Result<Text, ReadFault>
-    ensures { GivesText result (lines_at Bash 0 (slice_split is_newline text.now)) }
+    ensures { GivesText result (lines_at 0 (slice_split is_newline text.now)) }
 {
     let mut written = TextSink::new(alloc);
     let mut rest = text;

@@ -12,8 +12,7 @@ ghost use Rattle.bash2sh.specs.Views.{command_seen, GivesItems, IfNotYet, Cut, P
 
 use crate::commands::command_of;
 use crate::fault::{ReadFault, Stop};
-use crate::form::is_taken_in;
-use crate::language::Language;
+use crate::form::is_taken;
 use crate::words::span;
 use bash_tree::{AndOr, Command, CommandKind, Item, Pipeline, Script};
 use memchr::memchr;
@@ -35,16 +34,11 @@ pub fn first_line(text: &[u8]) -> (&[u8], Option<&[u8]>)
 }
 
 /// The command of this form that stands on these bytes.
-fn taken_of(
-    alloc: Global,
-    language: Language,
-    front: &[u8],
-    end: usize,
-) -> Result<Option<CommandKind>, Stop>
-    ensures { Gives command_seen result (taken_at language front.now) }
+fn taken_of(alloc: Global, front: &[u8], end: usize) -> Result<Option<CommandKind>, Stop>
+    ensures { Gives command_seen result (taken_at front.now) }
 {
     let kind = command_of(alloc, front, end)?;
-    if is_taken_in(alloc, language, &kind)? {
+    if is_taken(alloc, &kind)? {
         Ok(Some(kind))
     } else {
         Err(Stop::Bad)
@@ -52,13 +46,8 @@ fn taken_of(
 }
 
 #[tactic(auto, unfolding(crate::specs::Model::front_at))]
-fn front_of(
-    alloc: Global,
-    language: Language,
-    front: &[u8],
-    end: usize,
-) -> Result<Option<CommandKind>, Stop>
-    ensures { Gives command_seen result (front_at language front.now) }
+fn front_of(alloc: Global, front: &[u8], end: usize) -> Result<Option<CommandKind>, Stop>
+    ensures { Gives command_seen result (front_at front.now) }
 {
     match front {
         [] => Ok(None),
@@ -69,22 +58,17 @@ fn front_of(
                 Err(Stop::Bad)
             }
         }
-        _ => taken_of(alloc, language, front, end),
+        _ => taken_of(alloc, front, end),
     }
 }
 
 /// The command of a line that ends at the offset `end` of its text; nothing where the line is blank or a comment.
 #[tactic(auto, unfolding(crate::specs::Model::line_at))]
-pub fn line_of(
-    alloc: Global,
-    language: Language,
-    line: &[u8],
-    end: usize,
-) -> Result<Option<CommandKind>, Stop>
-    ensures { Gives command_seen result (line_at language line.now) }
+pub fn line_of(alloc: Global, line: &[u8], end: usize) -> Result<Option<CommandKind>, Stop>
+    ensures { Gives command_seen result (line_at line.now) }
 {
     let (_, front) = run(Class::Blank, line);
-    front_of(alloc, language, front, end)
+    front_of(alloc, front, end)
 }
 
 /// A command by itself, as a complete command of a script.
@@ -123,21 +107,21 @@ fn push_line(
     }
 }
 
-/// The script of this language that the text spells.
-pub fn read(alloc: Global, language: Language, text: &[u8]) -> Result<Script, ReadFault>
+/// The script that the text spells.
+pub fn read(alloc: Global, text: &[u8]) -> Result<Script, ReadFault>
     // What is read is spelled so.
-    ensures found { IfOk result (λ s. Reads language text.now (view s)) }
+    ensures found { IfOk result (λ s. Reads text.now (view s)) }
     // A text is refused only if it spells no script of the form that is taken,
-    ensures refused { IfErr result (λ fault. IfNotYet fault (λ place. (s : ScriptShape) → Reads language text.now s → ⊥)) }
+    ensures refused { IfErr result (λ fault. IfNotYet fault (λ place. (s : ScriptShape) → Reads text.now s → ⊥)) }
     // and the place is that of its first line that isn't of this form.
-    ensures place { IfErr result (λ fault. IfNotYet fault (λ place. IsFirstBad language text.now place)) }
+    ensures place { IfErr result (λ fault. IfNotYet fault (λ place. IsFirstBad text.now place)) }
 {
-    let items = items_of(alloc, language, text)?;
+    let items = items_of(alloc, text)?;
     Ok(Script { items })
 }
 
-fn items_of(alloc: Global, language: Language, text: &[u8]) -> Result<List<Item>, ReadFault>
-    ensures { GivesItems result (lines_at language 0 (slice_split is_newline text.now)) }
+fn items_of(alloc: Global, text: &[u8]) -> Result<List<Item>, ReadFault>
+    ensures { GivesItems result (lines_at 0 (slice_split is_newline text.now)) }
 {
     let mut items = List::new(alloc);
     let mut rest = text;
@@ -145,7 +129,7 @@ fn items_of(alloc: Global, language: Language, text: &[u8]) -> Result<List<Item>
         let (line, behind) = first_line(rest);
         let at = text.len() - rest.len();
         let end = at + line.len();
-        match line_of(alloc, language, line, end) {
+        match line_of(alloc, line, end) {
             Err(Stop::Memory) => return Err(ReadFault::Memory),
             Err(Stop::Bad) => return Err(ReadFault::NotYet(at + run_len(Class::Blank, line))),
             Ok(kind) => push_line(alloc, &mut items, kind, span(end, line, &[]))?,

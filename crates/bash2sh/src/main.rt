@@ -21,6 +21,8 @@ mod lines;
 mod lowering;
 mod messages;
 mod program;
+#[cfg(test)]
+mod run_sh;
 mod status;
 #[cfg(test)]
 mod tests;

@@ -1,10 +1,10 @@
 //! The lines that the program says.
 
-ghost use Rattle.std.specs.Prelude.{[], ◌∷◌, ◌++◌, codes, decimal};
+ghost use Rattle.std.specs.Prelude.{◌≡◌, [], ◌∷◌, ◌++◌, codes, decimal};
 ghost use Rattle.world_json.specs.Judging.{reason_word};
 ghost use Rattle.bash2sh.specs.Answers.{bad_world_line};
 ghost use Rattle.span_text.specs.Streams.{Wrote};
-ghost use Rattle.bash2sh.specs.Answers.{Said, refused_line};
+ghost use Rattle.bash2sh.specs.Answers.{Said, refused_line, refusal_tail, refusal_word};
 
 use itoa::Buffer;
 use span_text::{Failed, Place, Sink, write_all};
@@ -52,19 +52,49 @@ pub fn say_out_of_memory<E: Sink>(err: &mut E)
     say(err, b"bash2sh: out of memory\n");
 }
 
-/// Writes the line that refuses a script at this place.
-pub fn say_refused<E: Sink>(err: &mut E, place: Place)
-    ensures { Said (E.held err.old) (E.held err.new) (E.faults err.old) (E.faults err.new) (refused_line place.line place.column) }
-{
-    let _ = write_refused(err, place);
+/// Why a script is refused.
+#[derive(Clone, Copy, Debug, PartialEq, Eq)]
+pub enum Refusal {
+    /// It is no text of sh.
+    ShSyntax,
+    /// It has a form that isn't built yet.
+    NotYet,
 }
 
-fn write_refused<E: Sink>(err: &mut E, place: Place) -> Result<(), Failed>
-    ensures { Wrote (E.held err.old) (E.held err.new) (E.faults err.old) (E.faults err.new) result (refused_line place.line place.column) }
+impl Refusal {
+    /// The word for it in a message.
+    fn word(self) -> &'static str
+        ensures { result.now ≡ refusal_word self }
+    {
+        match self {
+            Refusal::ShSyntax => "sh-syntax",
+            Refusal::NotYet => "not-yet",
+        }
+    }
+}
+
+/// Writes the line that refuses a script at this place.
+pub fn say_refused<E: Sink>(err: &mut E, refusal: Refusal, place: Place)
+    ensures { Said (E.held err.old) (E.held err.new) (E.faults err.old) (E.faults err.new) (refused_line refusal place.line place.column) }
+{
+    let _ = write_refused(err, refusal, place);
+}
+
+fn write_refused<E: Sink>(err: &mut E, refusal: Refusal, place: Place) -> Result<(), Failed>
+    ensures { Wrote (E.held err.old) (E.held err.new) (E.faults err.old) (E.faults err.new) result (refused_line refusal place.line place.column) }
 {
     write_all(err, b"bash2sh: ")?;
     write_place(err, place)?;
-    write_all(err, b": not-yet\n")
+    write_refusal(err, refusal)
+}
+
+/// `: not-yet`, and the end of the line.
+fn write_refusal<E: Sink>(err: &mut E, refusal: Refusal) -> Result<(), Failed>
+    ensures { Wrote (E.held err.old) (E.held err.new) (E.faults err.old) (E.faults err.new) result (refusal_tail refusal) }
+{
+    write_all(err, b": ")?;
+    write_all(err, refusal.word().as_bytes())?;
+    write_all(err, b"\n")
 }
 
 /// `2:1`

@@ -9,7 +9,8 @@ use crate::fault::TranslateFault;
 use crate::input::{InputFault, read_all};
 use crate::jobs::run_job;
 use crate::messages::{
-    say_out_of_memory, say_read_fault, say_refused, say_too_long, say_usage, say_write_fault,
+    Refusal, say_out_of_memory, say_read_fault, say_refused, say_too_long, say_usage,
+    say_write_fault,
 };
 use crate::status::Status;
 use crate::translator::translate;
@@ -24,7 +25,7 @@ fn answer<K: Sink, E: Sink>(alloc: Global, text: &[u8], out: &mut K, err: &mut E
     match translate(alloc, text, out) {
         Ok(()) => Status::Done,
         Err(TranslateFault::NotYet(at)) => {
-            say_refused(err, place_of(text, at));
+            say_refused(err, Refusal::NotYet, place_of(text, at));
             Status::Refused
         }
         Err(TranslateFault::Output) => {

@@ -1,6 +1,6 @@
 use crate::fault::TranslateFault;
 use crate::input::{LIMIT, read_all};
-use crate::messages::say_refused;
+use crate::messages::{Refusal, say_refused};
 use crate::program::bash2sh;
 use crate::status::Status;
 use crate::translator::translate;
@@ -47,7 +47,7 @@ fn all_bytes_of_a_source_are_taken(rt: HostRuntime) -> Result<(), Fail> {
 #[test]
 fn a_refusal_names_its_line_and_column(rt: HostRuntime) -> Result<(), Fail> {
     let mut err = sink(rt.alloc())?;
-    say_refused(&mut err, Place { line: 2, column: 3 });
+    say_refused(&mut err, Refusal::NotYet, Place { line: 2, column: 3 });
     assert_eq!(rt; err.held(), b"bash2sh: 2:3: not-yet\n".as_slice());
     Ok(())
 }

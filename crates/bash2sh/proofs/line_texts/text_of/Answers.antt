@@ -2,7 +2,6 @@ use Rattle.std.proofs.Common.{◌≡◌, arith}
 use Rattle.std.specs.List.{prefix_len}
 use Rattle.std.proofs.lemmas.List.Sums.{prefix_len-le-length}
 use Rattle.span_text.specs.Scanning.{is_blank}
-use Rattle.bash2sh.specs.declared.language.Language.TheVariants.{Bash}
 use Rattle.bash2sh.proofs.Rest.{cut_shorter}
 use Rattle.bash2sh.proofs.LineTexts.{Made-more, Made-done, Made-bad}
 use Rattle.bash2sh.proofs.line_texts.text_of.Goals as goal
@@ -12,7 +11,7 @@ overflow_add-result c =
     let fits = c.lines.invariant.fits in
     let gap : c.run_len.result ≡ prefix_len is_blank c.first_line.result.0.now = c.run_len.ensures in
     let le = prefix_len-le-length is_blank c.first_line.result.0.now in
-    let shorter = cut_shorter Bash c.lines.rest.now c.first_line.result.0.now c.first_line.result.1 c.first_line.ensures in
+    let shorter = cut_shorter c.lines.rest.now c.first_line.result.0.now c.first_line.result.1 c.first_line.ensures in
     omega arith
 
 pub returns-in-Err-Bad : goal.returns-in-Err-Bad

@@ -11,17 +11,17 @@ overflow_add-result c =
     let fits = c.lines.invariant.fits in
     let gap : c.run_len.result ≡ prefix_len is_blank c.first_line.result.0.now = c.run_len.ensures in
     let le = prefix_len-le-length is_blank c.first_line.result.0.now in
-    let shorter = cut_shorter c.args.language c.lines.rest.now c.first_line.result.0.now c.first_line.result.1 c.first_line.ensures in
+    let shorter = cut_shorter c.lines.rest.now c.first_line.result.0.now c.first_line.result.1 c.first_line.ensures in
     omega arith
 
 pub returns-in-Err-Bad : goal.returns-in-Err-Bad
 returns-in-Err-Bad c =
-    rw c.run_len.ensures (SoFar-bad c.args.language c.args.text.now c.lines.rest.now c.first_line.result.0.now c.first_line.result.1 c.lines.items c.first_line.ensures (rw c.in-Err-Bad.field-0-is at c.in-Err-Bad.ensures) c.lines.invariant)
+    rw c.run_len.ensures (SoFar-bad c.args.text.now c.lines.rest.now c.first_line.result.0.now c.first_line.result.1 c.lines.items c.first_line.ensures (rw c.in-Err-Bad.field-0-is at c.in-Err-Bad.ensures) c.lines.invariant)
 
 pub returns-in-None : goal.returns-in-None
 returns-in-None c =
-    SoFar-done c.args.language c.args.text.now c.lines.rest.now c.first_line.result.0.now c.lines.items c.push_line.new.items (command_seen c.in-Ok.kind) (rw c.in-None.is at c.first_line.ensures) c.in-Ok.ensures c.in_ok-push_line-in-Ok.ensures c.lines.invariant
+    SoFar-done c.args.text.now c.lines.rest.now c.first_line.result.0.now c.lines.items c.push_line.new.items (command_seen c.in-Ok.kind) (rw c.in-None.is at c.first_line.ensures) c.in-Ok.ensures c.in_ok-push_line-in-Ok.ensures c.lines.invariant
 
 pub lines-preserved : goal.lines-preserved
 lines-preserved c =
-    SoFar-more c.args.language c.args.text.now c.lines.rest.now c.first_line.result.0.now c.in-Some.more c.lines.items c.push_line.new.items (command_seen c.in-Ok.kind) (rw c.in-Some.is at c.first_line.ensures) c.in-Ok.ensures c.in_ok-push_line-in-Ok.ensures c.lines.invariant
+    SoFar-more c.args.text.now c.lines.rest.now c.first_line.result.0.now c.in-Some.more c.lines.items c.push_line.new.items (command_seen c.in-Ok.kind) (rw c.in-Some.is at c.first_line.ensures) c.in-Ok.ensures c.in_ok-push_line-in-Ok.ensures c.lines.invariant

@@ -1,0 +1,10 @@
+use Rattle.std.proofs.Common.{[], ◌∷◌, ◌++◌, codes}
+use Rattle.std.proofs.lemmas.Result.{err_from_is_err_and}
+use Rattle.span_text.proofs.Writes.{Wrote-early}
+use Rattle.bash2sh.specs.Answers.{refusal_word}
+use Rattle.bash2sh.proofs.messages.write_refusal.Goals as goal
+
+pub returns-in_err-write_all : goal.returns-in_err-write_all
+returns-in_err-write_all g c =
+    let p = err_from_is_err_and c.from_residual.result c.from_residual.ensures.1 in
+    Wrote-early _ _ _ _ c.from_residual.result _ (codes ": ") (refusal_word c.args.refusal ++ 10 ∷ []) p.1 c.in_err-write_all.ensures

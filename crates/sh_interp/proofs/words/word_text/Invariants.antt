@@ -1,8 +1,0 @@
-use Rattle.std.proofs.Common.{◌≡◌}
-use Rattle.sh_meaning.specs.Meaning.{word_part}
-use Rattle.sh_interp.specs.Shells.{state_of, with_front}
-use Rattle.sh_interp.proofs.Expanding.{rest}
-use Rattle.sh_interp.proofs.words.word_text.Given as goal
-
-abbrev pub invariant-loop-part : goal.invariant-loop-part
-invariant-loop-part l = with_front l.text (rest word_part l.shell.turns (state_of l.shell) l.word.parts l.part-index) ≡ rest word_part l.shell.turns (state_of l.shell) l.word.parts 0
