@@ -88,7 +88,7 @@ fn run_sh<K: Sink, E: Sink>(alloc: Global, job: Job, out: &mut K, err: &mut E) -
 {
     let Job { script, world } = job;
     match sh_parser::read(alloc, script.bytes()) {
-        Ok(tree) => match sh_runner::run(alloc, &tree, world) {
+        Ok(tree) => match sh_interp::run(alloc, &tree, world) {
             Ok(report) => write_report(alloc, &report, out, err),
             Err(_) => {
                 say_out_of_memory(err);

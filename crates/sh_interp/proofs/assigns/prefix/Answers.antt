@@ -1,0 +1,14 @@
+use Rattle.std.specs.Prelude.{map}
+use Rattle.sh_meaning.specs.Simple.{Setting}
+use Rattle.sh_meaning.specs.Commands as commands
+use Rattle.sh_interp.specs.Answers.{Turns}
+use Rattle.sh_interp.proofs.Firsts.{onto_first}
+use Rattle.sh_syntax.specs.View.{view_assign, assigns_of}
+use Rattle.sh_frames.specs.Payloads.{to_saved}
+use Rattle.sh_interp.specs.Views.{saved_of}
+use Rattle.sh_interp.proofs.assigns.prefix.Goals as goal
+
+pub returns-in-len1-up : goal.returns-in-len1-up
+returns-in-len1-up c =
+    onto_first (λ as'. (z : Setting) → Turns z (λ call. commands.prefix_run z call (assigns_of (map view_assign as')) (saved_of c.args.before)) to_saved c.args.frames.now c.next_prefix.new.frames c.args.shell.now c.args.shell.now c.next_prefix.result)
+    c.args.assigns.now c.first-item.result c.in-len1-up.len_at_least c.first-item.is c.next_prefix.ensures

@@ -1,6 +1,0 @@
-use Rattle.std.proofs.Common.{◌≡◌, refl, sym}
-use Rattle.sh_runner.specs.Views.{setting_of}
-use Rattle.sh_runner.proofs.turns.on_arguments.Goals as goal
-
-pub returns-in-Arguments : goal.returns-in-Arguments
-returns-in-Arguments c = λ z. rw c.in-Arguments.is (c.arguments_turn.ensures z)

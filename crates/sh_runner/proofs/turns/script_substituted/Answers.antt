@@ -1,5 +1,0 @@
-use Rattle.sh_builtins.specs.Views.{flow_of}
-use Rattle.sh_runner.proofs.turns.script_substituted.Goals as goal
-
-pub returns : goal.returns
-returns c = c.substituted.ensures (flow_of c.args.flow)

@@ -1,4 +1,0 @@
-use Rattle.sh_runner.proofs.turns.shell_left.Goals as goal
-
-pub returns : goal.returns
-returns c = c.leave_shell.ensures c.args.flow
