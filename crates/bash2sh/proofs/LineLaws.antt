@@ -7,7 +7,7 @@ use Rattle.span_text.specs.Scanning.{starts, Each, Run, is_newline, is_blank, is
 use Rattle.span_text.proofs.Runs.{Run-front, Run-is}
 use Rattle.span_text.proofs.Bytes.{marks}
 use Rattle.bash_tree.specs.Shape.{Part, plain, exact, double, param, Parts, no_part, part, no_word, word, no_assign, assign, Command, simple, Script, no_item, item, background_item, alone}
-use Rattle.bash2sh.specs.Form.{command_form, script_form}
+use Rattle.bash2sh.specs.Form.{command_form}
 use Rattle.bash2sh.specs.Spelling.{PartAt, WordAt, CommandAt, IsIdle, IsCommandLine, LinesAt, Reads, IsBadLine, total, IsFirstBad}
 use Rattle.bash2sh.specs.Model.{◌>>=◌, ◌>>◌, run_at, command_at, of_form, front_at, line_at, put, by_line, lines_at, script_from}
 use Rattle.bash2sh.proofs.Tools.{chosen, some_is, bind_some, bind_ok, ok_is, each_of, test_of}
@@ -209,16 +209,6 @@ is_placed text place e =
 
 pub is_refused : (text : List ℕ) (place : ℕ) → lines_at 0 (slice_split is_newline text) ≡ Err place → (s : Script) → Reads text s → ⊥
 is_refused text place e s h = let f = lines_complete (slice_split is_newline text) 0 s h in let g = f.read in cc
-
--- ---- what is taken is of the form that is translated
-
-pub form_of_lines : (ls : List (List ℕ)) (s : Script) → LinesAt ls s → script_form s ≡ true
-form_of_lines [] no_item h = refl
-form_of_lines [] (item c more) h = absurd h
-form_of_lines [] (background_item c more) h = absurd h
-form_of_lines (l ∷ ls) s (inl h) = form_of_lines ls s h.1
-form_of_lines (l ∷ ls) s (inr h) =
-    subst (λ (x : Script). script_form x ≡ true) (sym h.2) (rw (h.3.4, form_of_lines ls h.1 h.4) refl)
 
 -- ---- the loop over the lines
 

@@ -5,30 +5,24 @@ use Rattle.std.proofs.lemmas.List.Folds.{length-prefix_len}
 use Rattle.std.specs.List.{slice_split, prefix_len}
 use Rattle.span_text.specs.Scanning.{is_newline, is_blank}
 use Rattle.bash_tree.specs.Shape.{Command, alone}
-use Rattle.sh_tree.specs.Printing.{chain_text, command_printable}
-use Rattle.sh_tree.proofs.Back.{script_back}
-use Rattle.bash2sh.specs.Lower.{lower_command, lower_chain, lower}
+use Rattle.sh_printing.specs.Marks as mark
+use Rattle.sh_printing.specs.Printing.{chain_text}
+use Rattle.bash2sh.specs.Answers.{limit}
+use Rattle.bash2sh.specs.Lower.{lower_chain}
 use Rattle.bash2sh.specs.Model.{◌>>◌, line_at, put, lines_at, script_from}
 use Rattle.bash2sh.specs.Translation.{IsTranslated, IsRefused}
 use Rattle.bash2sh.specs.Views.{Cut}
 use Rattle.bash2sh.specs.LineTexts.{text_from, PutsLine, GivesText}
-use Rattle.bash2sh.proofs.LineLaws.{line_sound, lines_sound, is_refused, is_placed}
-use Rattle.bash2sh.proofs.Printable.{command_prints, reads_printable}
+use Rattle.bash2sh.proofs.LineLaws.{lines_sound, is_refused, is_placed}
 use Rattle.bash2sh.proofs.Rest.{same, regroup, by_first}
 use Rattle.bash2sh.proofs.Translating.{is_translated}
 
-pub line_prints : (line : List ℕ) (c : Command) → line_at line ≡ Some (Some c) → command_printable (lower_command c) ≡ true
-line_prints line c e = let h = line_sound line (Some c) e in command_prints c h.1 h.3 h.4
-
 -- ---- one text behind another
-
-grouped : (a x y : List ℕ) → a ++ 10 ∷ [] ++ (x ++ y) ≡ (a ++ 10 ∷ [] ++ x) ++ y
-grouped a x y = simp append_assoc
 
 texts_behind : (cs ds : List Command) → text_from (cs ++ ds) ≡ text_from cs ++ text_from ds
 texts_behind [] ds = refl
 texts_behind (c ∷ cs) ds =
-    ap (λ (t : List ℕ). chain_text (lower_chain (alone c)) ++ 10 ∷ [] ++ t) (texts_behind cs ds) ∙ grouped (chain_text (lower_chain (alone c))) (text_from cs) (text_from ds)
+    ap (λ (t : List ℕ). chain_text true mark.line (lower_chain (alone c)) ++ t) (texts_behind cs ds) ∙ sym (append_assoc (chain_text true mark.line (lower_chain (alone c))) (text_from cs) (text_from ds))
 
 -- ---- what the loop keeps
 
@@ -81,11 +75,9 @@ Made-bad text rest line (Some more) written cut e s = bad_split text rest line (
 
 -- ---- what is made
 
-pub text_translated : (text written : List ℕ) → GivesText (Ok written) (lines_at 0 (slice_split is_newline text)) → IsTranslated text written
-text_translated text written h =
-    let s = script_from h.0 in
-    let found = lines_sound (slice_split is_newline text) 0 h.0 h.1 in
-    subst (λ (w : List ℕ). IsTranslated text w) (sym h.2) (is_translated text s (lower s) found refl (script_back (lower s) (reads_printable text s found)))
+pub text_translated : (text written : List ℕ) → length text ≤ limit → GivesText (Ok written) (lines_at 0 (slice_split is_newline text)) → IsTranslated text written
+text_translated text written fits h =
+    subst (λ (w : List ℕ). IsTranslated text w) (sym h.2) (is_translated text (script_from h.0) fits (lines_sound (slice_split is_newline text) 0 h.0 h.1))
 
 pub text_refused : (text : List ℕ) (place : ℕ) → lines_at 0 (slice_split is_newline text) ≡ Err place → IsRefused text place
 text_refused text place e = record { no_script = is_refused text place e; first = is_placed text place e }

@@ -1,159 +1,178 @@
--- What a Bash text spells is translated to a script that can be printed.
-use Rattle.std.proofs.Common.{◌≡◌, ℕ, Bool, true, false, not, ◌&&◌, ◌||◌, List, [], ◌∷◌, ◌++◌, refl, sym, ap, subst, ◌∙◌, inl, inr}
-use Rattle.std.specs.List.{slice_split}
-use Rattle.std.proofs.lemmas.List.{append-nil}
-use Rattle.span_text.specs.Names.{begins_name, continues_name, is_name, is_reserved}
-use Rattle.span_text.specs.KnownNames.{is_builtin, is_refused_builtin, is_standard_word, is_bash_word, is_among, other_commands}
-use Rattle.span_text.specs.Scanning.{starts, Run, is_newline, is_plain_byte, is_exact_byte, is_quoted_byte, ends_word}
-use Rattle.span_text.proofs.Bytes.{first_is_name}
-use Rattle.bash_tree.specs.Shape.{plain, exact, double, param, Parts, no_part, part, Words, no_word, word, Value, no_value, value, no_assign, assign, Command, simple, Script, no_item, item, background_item}
-use Rattle.sh_tree.specs.Shape as sh
-use Rattle.sh_tree.specs.Spelling.{is_bare_keyword}
-use Rattle.sh_tree.specs.Printing.{is_something, begins_plain, goes_on_name, quoted_printable, parts_printable, word_printable, words_printable, value_printable, command_printable, script_printable}
-use Rattle.bash2sh.specs.Form.{is_free_command, name_form, words_form, command_form}
-use Rattle.bash2sh.specs.Spelling.{QuotedPartsAt, PartsAt, WordAt, WordsAt, ValueAt, sign, CommandAt, LinesAt, Reads}
-use Rattle.bash2sh.specs.Lower.{lower_parts, lower_words, lower_value, lower_command, lower}
-use Rattle.bash2sh.proofs.Tools.{both, test_of}
+-- What a script of the forms that are taken is lowered to can be printed as sh text.
+use Rattle.std.proofs.Common.{◌≡◌, ℕ, Bool, true, false, not, ◌&&◌, ◌||◌, ◌==◌, List, [], ◌∷◌, ◌++◌, refl, sym, ap, subst, ◌∙◌, append-nil, arith}
+use Rattle.std.specs.Prelude.{codes}
+use Rattle.std.specs.List.{list_all, list_any}
+use Rattle.std.proofs.lemmas.Bool.Decides.{nat_tests}
+use Rattle.span_text.specs.Names.{is_name, is_reserved, continues_name}
+use Rattle.span_text.specs.KnownNames.{same_text, is_among, standard_words, is_standard_word, is_builtin, is_refused_builtin, is_bash_word, is_restricted, is_known_command, other_commands}
+use Rattle.span_text.specs.Scanning.{is_plain_byte, is_exact_byte, is_quoted_byte}
+use Rattle.sh_grammar.specs.Shape as sh
+use Rattle.sh_grammar.specs.Bytes.{Context, in_word, in_double, has_double, has_single}
+use Rattle.sh_grammar.specs.Steps.{is_empty}
+use Rattle.sh_grammar.specs.Tokens.{key_text}
+use Rattle.sh_printing.specs.Marks.{is_quote}
+use Rattle.sh_printing.specs.Printing.{continued}
+use Rattle.sh_printing.specs.Spellable.{is_literal_text, ends_with, begins_with, is_reserved_text, is_reserved_word, begins_assign}
+use Rattle.sh_printing.specs.Printable.{first_is, is_plain_part, is_expansion, is_assignment, reads_tilde, parts_fit, word_fits, words_fit, value_fits, name_fits, command_fits, chain_fits, list_fits, script_printable}
+use Rattle.bash_tree.specs.Shape.{Part, plain, exact, double, param, Parts, no_part, part, Words, no_word, word, Value, no_value, value, no_assign, assign, Command, simple, no_stage, stage, pipeline, no_link, and_link, or_link, Chain, chain, Script, no_item, item, background_item}
+use Rattle.bash2sh.specs.Form.{is_free_name, is_literal, literal_text, is_free_command, name_form, words_form, value_form, command_form}
+use Rattle.bash2sh.specs.Lower.{lower_part, lower_parts, lower_words, lower_value, lower_command, lower_chain, lower}
+use Rattle.bash2sh.proofs.Tools.{and_no, both, neither, all_three, all_four}
+use Rattle.bash2sh.proofs.PlainBytes.{reads_no_tilde, plain_is_literal, quoted_is_literal, plain_ends_no_dollar, quoted_ends_no_dollar, plain_begins_no_comment, begins_no_assign, exact_is_no_quote, exact_bytes}
+use Rattle.bash2sh.proofs.Spelled.{is_something, has_part, begins_plain, goes_on_name, quoted_spelled, parts_spelled, word_spelled, words_spelled, value_spelled, command_spelled, command_taken, chain_taken, script_taken}
+use Rattle.bash2sh.proofs.ShNames.{Differs, differs, no_either}
 
-and_2 : {a b : Bool} → a ≡ true → b ≡ true → (a && b) ≡ true
-and_2 x y = rw (x, y) refl
+no_of : (b : Bool) → not b ≡ true → b ≡ false
+no_of true e = absurd cc
+no_of false e = refl
 
-and_3 : {a b c : Bool} → a ≡ true → b ≡ true → c ≡ true → (a && b && c) ≡ true
-and_3 x y z = rw (x, y, z) refl
+-- ---- what stands behind a part
 
-and_4 : {a b c d : Bool} → a ≡ true → b ≡ true → c ≡ true → d ≡ true → (a && b && c && d) ≡ true
-and_4 x y z w = rw (x, y, z, w) refl
+plain_next : (ps : Parts) → first_is is_plain_part (lower_parts ps) ≡ begins_plain ps
+plain_next no_part = refl
+plain_next (part (plain text) ps) = refl
+plain_next (part (exact text) ps) = refl
+plain_next (part (double qs) ps) = refl
+plain_next (part (param name) ps) = refl
 
--- ---- runs
+name_next : (ps : Parts) → continued (lower_parts ps) ≡ goes_on_name ps
+name_next no_part = refl
+name_next (part (plain []) ps) = refl
+name_next (part (plain (b ∷ bs)) ps) = refl
+name_next (part (exact text) ps) = refl
+name_next (part (double qs) ps) = refl
+name_next (part (param name) ps) = refl
 
--- a run whose first byte passes has bytes
-takes : (p : ℕ → Bool) (text bytes rest : List ℕ) → starts p bytes ≡ true → Run p text bytes rest → is_something text ≡ true
-takes p [] bytes rest e r = let same : bytes ≡ rest = r.whole in let no : starts p rest ≡ false = r.stops in absurd cc
-takes p (b ∷ bs) bytes rest e r = refl
+not_empty : (text : List ℕ) → is_something text ≡ true → is_empty text ≡ false
+not_empty [] e = absurd cc
+not_empty (b ∷ bs) e = refl
 
-name_starts : (bytes : List ℕ) → starts begins_name bytes ≡ true → starts continues_name bytes ≡ true
-name_starts [] e = e
-name_starts (b ∷ bs) e = first_is_name b e
+no_plain_behind : (ps : Parts) → not (begins_plain ps) ≡ true → first_is is_plain_part (lower_parts ps) ≡ false
+no_plain_behind ps e = plain_next ps ∙ no_of (begins_plain ps) e
 
-named : (name bytes rest : List ℕ) → starts begins_name bytes ≡ true → Run continues_name name bytes rest → is_name name ≡ true
-named [] bytes rest e r =
-    let same : bytes ≡ rest = r.whole in
-    let no : starts continues_name rest ≡ false = r.stops in
-    let yes : starts continues_name bytes ≡ true = name_starts bytes e in
-    absurd cc
-named (b ∷ bs) bytes rest e r =
-    let first : begins_name b ≡ true = sym (ap (starts begins_name) r.whole) ∙ e in
-    and_2 first (test_of continues_name bs r.each.1)
+-- ---- parts of words
 
--- a front begins as the whole does
-front_fails : (text bytes after : List ℕ) → bytes ≡ text ++ after → starts continues_name bytes ≡ false → starts continues_name text ≡ false
-front_fails [] bytes after is e = refl
-front_fails (b ∷ bs) bytes after is e = sym (ap (starts continues_name) is) ∙ e
+quoted_fit : (d : ℕ) (ps : Parts) → quoted_spelled ps ≡ true → parts_fit false d in_double (lower_parts ps) ≡ true
+quoted_fit d no_part e = refl
+quoted_fit d (part (plain text) ps) e =
+    let y = all_four (is_something text) (list_all is_quoted_byte text) (not (begins_plain ps)) (quoted_spelled ps) e in
+    rw (not_empty text y.0, quoted_is_literal text y.1, no_plain_behind ps y.2, quoted_ends_no_dollar text y.1) (quoted_fit d ps y.3)
+quoted_fit d (part (param name) ps) e =
+    let y = all_three (is_name name) (not (goes_on_name ps)) (quoted_spelled ps) e in
+    rw (y.0, name_next ps ∙ no_of (goes_on_name ps) y.1) (quoted_fit d ps y.2)
+quoted_fit d (part (exact text) ps) e = absurd cc
+quoted_fit d (part (double qs) ps) e = absurd cc
 
--- ---- parts in double quotes
+parts_fitting : (d : ℕ) (ps : Parts) → parts_spelled ps ≡ true → parts_fit false d in_word (lower_parts ps) ≡ true
+unfolding has_double has_single
+parts_fitting d no_part e = refl
+parts_fitting d (part (plain text) ps) e =
+    let y = all_four (is_something text) (list_all is_plain_byte text) (not (begins_plain ps)) (parts_spelled ps) e in
+    rw (not_empty text y.0, plain_is_literal text y.1, no_plain_behind ps y.2, plain_ends_no_dollar text y.1) (parts_fitting d ps y.3)
+parts_fitting d (part (exact text) ps) e =
+    let y = both (list_all is_exact_byte text) (parts_spelled ps) e in
+    rw (exact_is_no_quote text y.0, exact_bytes text y.0) (parts_fitting d ps y.1)
+parts_fitting d (part (double qs) ps) e =
+    let y = both (quoted_spelled qs) (parts_spelled ps) e in
+    rw (quoted_fit d qs y.0) (parts_fitting d ps y.1)
+parts_fitting d (part (param name) ps) e = absurd cc
 
-no_quoted_next : (ps : Parts) (bytes rest : List ℕ) → starts is_quoted_byte bytes ≡ false → QuotedPartsAt ps bytes rest → begins_plain (lower_parts ps) ≡ false
-no_quoted_next no_part bytes rest e h = refl
-no_quoted_next (part (plain text) ps) bytes rest e h = let k : starts is_quoted_byte bytes ≡ true = h.1.0 in absurd cc
-no_quoted_next (part (exact text) ps) bytes rest e h = refl
-no_quoted_next (part (double qs) ps) bytes rest e h = refl
-no_quoted_next (part (param name) ps) bytes rest e h = refl
+pub word_fitting : (d : ℕ) (spaced : Bool) (w : Parts) → word_spelled w ≡ true → word_fits false d spaced (lower_parts w) ≡ true
+word_fitting d spaced no_part e = absurd cc
+word_fitting d spaced (part (plain text) ps) e =
+    let k = parts_fitting d (part (plain text) ps) e in
+    let y = all_four (is_something text) (list_all is_plain_byte text) (not (begins_plain ps)) (parts_spelled ps) e in
+    rw (and_no spaced (begins_with 35 text) (plain_begins_no_comment text y.1), reads_no_tilde text (lower_parts ps) y.1) k
+word_fitting d spaced (part (exact text) ps) e = parts_fitting d (part (exact text) ps) e
+word_fitting d spaced (part (double qs) ps) e = parts_fitting d (part (double qs) ps) e
+word_fitting d spaced (part (param name) ps) e = absurd cc
 
-no_name_next : (ps : Parts) (bytes rest : List ℕ) → starts continues_name bytes ≡ false → QuotedPartsAt ps bytes rest → goes_on_name (lower_parts ps) ≡ false
-no_name_next no_part bytes rest e h = refl
-no_name_next (part (plain text) ps) bytes rest e h = front_fails text bytes h.0 h.1.1.whole e
-no_name_next (part (exact text) ps) bytes rest e h = refl
-no_name_next (part (double qs) ps) bytes rest e h = refl
-no_name_next (part (param name) ps) bytes rest e h = refl
+words_fitting : (d : ℕ) (ws : Words) → words_spelled ws ≡ true → words_fit false d (lower_words ws) ≡ true
+words_fitting d no_word e = refl
+words_fitting d (word w ws) e =
+    let y = both (word_spelled w) (words_spelled ws) e in
+    rw (word_fitting d true w y.0, words_fitting d ws y.1) refl
 
-pub quoted_prints : (ps : Parts) (bytes rest : List ℕ) → QuotedPartsAt ps bytes rest → quoted_printable (lower_parts ps) ≡ true
-quoted_prints no_part bytes rest h = refl
-quoted_prints (part (plain text) ps) bytes rest h =
-    and_4 (takes is_quoted_byte text bytes h.0 h.1.0 h.1.1) (test_of is_quoted_byte text h.1.1.each) (ap not (no_quoted_next ps h.0 rest h.1.1.stops h.2)) (quoted_prints ps h.0 rest h.2)
-quoted_prints (part (param name) ps) bytes rest h =
-    and_3 (named name h.1.0 h.0 h.1.2 h.1.3) (ap not (no_name_next ps h.0 rest h.1.3.stops h.2)) (quoted_prints ps h.0 rest h.2)
-quoted_prints (part (exact text) ps) bytes rest h = absurd h.1
-quoted_prints (part (double qs) ps) bytes rest h = absurd h.1
+-- ---- the name of a command
 
--- ---- words
+pub no_assignment : (w : Parts) → word_spelled w ≡ true → is_assignment (lower_parts w) ≡ false
+no_assignment no_part e = refl
+no_assignment (part (plain text) ps) e =
+    begins_no_assign text (all_four (is_something text) (list_all is_plain_byte text) (not (begins_plain ps)) (parts_spelled ps) e).1
+no_assignment (part (exact text) ps) e = refl
+no_assignment (part (double qs) ps) e = refl
+no_assignment (part (param name) ps) e = refl
 
-no_plain_next : (ps : Parts) (bytes rest : List ℕ) → starts is_plain_byte bytes ≡ false → PartsAt ps bytes rest → begins_plain (lower_parts ps) ≡ false
-no_plain_next no_part bytes rest e h = refl
-no_plain_next (part (plain text) ps) bytes rest e h = let k : starts is_plain_byte bytes ≡ true = h.1.0 in absurd cc
-no_plain_next (part (exact text) ps) bytes rest e h = refl
-no_plain_next (part (double qs) ps) bytes rest e h = refl
-no_plain_next (part (param name) ps) bytes rest e h = refl
+same_byte : (x y : ℕ) → (x == y) ≡ (y == x)
+same_byte x y = grind (arith, nat_tests)
 
-pub parts_print : (ps : Parts) (bytes rest : List ℕ) → PartsAt ps bytes rest → parts_printable (lower_parts ps) ≡ true
-parts_print no_part bytes rest h = refl
-parts_print (part (plain text) ps) bytes rest h =
-    and_4 (takes is_plain_byte text bytes h.0 h.1.0 h.1.1) (test_of is_plain_byte text h.1.1.each) (ap not (no_plain_next ps h.0 rest h.1.1.stops h.2)) (parts_print ps h.0 rest h.2)
-parts_print (part (exact text) ps) bytes rest h = and_2 (test_of is_exact_byte text h.1.2.each) (parts_print ps h.0 rest h.2)
-parts_print (part (double qs) ps) bytes rest h = and_2 (quoted_prints qs h.1.0 (34 ∷ h.0) h.1.2) (parts_print ps h.0 rest h.2)
-parts_print (part (param name) ps) bytes rest h = absurd h.1
+turned : (xs ys : List ℕ) → same_text xs ys ≡ same_text ys xs
+turned [] [] = refl
+turned [] (y ∷ ys) = refl
+turned (x ∷ xs) [] = refl
+turned (x ∷ xs) (y ∷ ys) = rw (same_byte x y, turned xs ys) refl
 
-pub word_prints : (w : Parts) (bytes rest : List ℕ) → WordAt w bytes rest → word_printable (lower_parts w) ≡ true
-word_prints no_part bytes rest h =
-    let same : bytes ≡ rest = h.1.0 in
-    let yes : ends_word rest ≡ true = h.1.1 in
-    let no : ends_word bytes ≡ false = h.0 in
-    absurd cc
-word_prints (part p ps) bytes rest h = parts_print (part p ps) bytes rest h.1
+-- a command that no shell knows is no word of the grammar
+free_no_keyword : (text : List ℕ) → is_free_command text ≡ true → is_standard_word text ≡ false
+free_no_keyword text e =
+    let known = (neither (is_known_command text) (is_reserved text) e).0 in
+    let more = (no_either (is_builtin text || is_refused_builtin text) (is_restricted text) known).1 in
+    (no_either (is_standard_word text) (is_bash_word text) (no_either (is_standard_word text || is_bash_word text) (is_among other_commands text) more).0).0
 
-pub words_print : (ws : Words) (bytes : List ℕ) → WordsAt ws bytes → words_printable (lower_words ws) ≡ true
-words_print no_word bytes h = refl
-words_print (word w ws) bytes h = and_2 (word_prints w h.1 h.2 h.4) (words_print ws h.2 h.5)
+no_keyword : (text : List ℕ) → is_standard_word text ≡ false → is_reserved_text text ≡ false
+unfolding standard_words key_text
+no_keyword text e =
+    let d : Differs standard_words text = differs standard_words text e in
+    rw (turned text (codes "if") ∙ d.0, turned text (codes "then") ∙ d.1.0, turned text (codes "elif") ∙ d.1.1.0, turned text (codes "else") ∙ d.1.1.1.0, turned text (codes "fi") ∙ d.1.1.1.1.0, turned text (codes "for") ∙ d.1.1.1.1.1.0, turned text (codes "in") ∙ d.1.1.1.1.1.1.0, turned text (codes "until") ∙ d.1.1.1.1.1.1.1.0, turned text (codes "while") ∙ d.1.1.1.1.1.1.1.1.0, turned text (codes "do") ∙ d.1.1.1.1.1.1.1.1.1.0, turned text (codes "done") ∙ d.1.1.1.1.1.1.1.1.1.1.0, turned text (codes "case") ∙ d.1.1.1.1.1.1.1.1.1.1.1.0, turned text (codes "esac") ∙ d.1.1.1.1.1.1.1.1.1.1.1.1.0, turned text (codes "{") ∙ d.1.1.1.1.1.1.1.1.1.1.1.1.1.0, turned text (codes "}") ∙ d.1.1.1.1.1.1.1.1.1.1.1.1.1.1.0, turned text (codes "!") ∙ d.1.1.1.1.1.1.1.1.1.1.1.1.1.1.1.0) refl
+
+pub no_reserved : (w : Parts) → name_form w ≡ true → is_reserved_word (lower_parts w) ≡ false
+no_reserved no_part e = refl
+no_reserved (part (plain text) no_part) e =
+    let free : is_free_command (text ++ []) ≡ true = (both (is_literal (part (plain text) no_part)) (is_free_command (literal_text (part (plain text) no_part))) e).1 in
+    no_keyword text (free_no_keyword text (subst (λ (t : List ℕ). is_free_command t ≡ true) (append-nil text) free))
+no_reserved (part (plain text) (part (plain t) qs)) e = refl
+no_reserved (part (plain text) (part (exact t) qs)) e = refl
+no_reserved (part (plain text) (part (double rs) qs)) e = refl
+no_reserved (part (plain text) (part (param name) qs)) e = absurd cc
+no_reserved (part (exact text) ps) e = refl
+no_reserved (part (double qs) ps) e = refl
+no_reserved (part (param name) ps) e = refl
 
 -- ---- commands
 
-pub value_prints : (append : Bool) (name : List ℕ) (v : Value) (bytes : List ℕ) → is_name name ≡ true → ValueAt v bytes → value_printable (lower_value append name v) ≡ true
-value_prints false name no_value bytes e h = refl
-value_prints false name (value w) bytes e h = word_prints w bytes h.0 h.1
-value_prints true name no_value bytes e h = rw e refl
-value_prints true name (value w) bytes e h =
-    let q : quoted_printable (sh.part (sh.param name) sh.no_part) ≡ true = rw e refl in
-    and_2 q (parts_print w bytes h.0 h.1.1)
+value_fitting : (d : ℕ) (append : Bool) (name : List ℕ) (v : Value) → is_name name ≡ true → value_spelled v ≡ true → value_fits false d (lower_value append name v) ≡ true
+unfolding has_double
+value_fitting d false name no_value n e = refl
+value_fitting d false name (value w) n e = word_fitting d false w e
+value_fitting d true name no_value n e = rw n refl
+value_fitting d true name (value w) n e = rw n (parts_fitting d w (both (has_part w) (parts_spelled w) e).1)
 
--- a command that no shell knows is no word of the grammar
-no_standard : (a b s c d e : Bool) → not ((a || b || (s || c || d)) || e) ≡ true → s ≡ false
-no_standard true b s c d e h = absurd cc
-no_standard false true s c d e h = absurd cc
-no_standard false false true c d e h = absurd cc
-no_standard false false false c d e h = refl
+command_fitting : (d : ℕ) (c : Command) → command_taken c ≡ true → command_fits false d (lower_command c) ≡ true
+command_fitting d (simple no_assign no_word) e = absurd cc
+command_fitting d (simple no_assign (word w ws)) e =
+    let y = both (name_form w && words_form ws) (words_spelled (word w ws)) e in
+    let s = both (word_spelled w) (words_spelled ws) y.1 in
+    rw (words_fitting d (word w ws) y.1, no_assignment w s.0, no_reserved w (both (name_form w) (words_form ws) y.0).0) refl
+command_fitting d (simple (assign name append v no_assign) no_word) e =
+    let y = both (is_free_name name && value_form v) (is_name name && value_spelled v) e in
+    let s = both (is_name name) (value_spelled v) y.1 in
+    rw (s.0, value_fitting d append name v s.0 s.1) refl
+command_fitting d (simple (assign name append v no_assign) (word w ws)) e = absurd cc
+command_fitting d (simple (assign name append v (assign name' append' v' more)) ws) e = absurd cc
 
-free_no_keyword : (text : List ℕ) → is_free_command text ≡ true → is_standard_word text ≡ false
-free_no_keyword text e = no_standard (is_builtin text) (is_refused_builtin text) (is_standard_word text) (is_bash_word text) (is_among other_commands text) (is_reserved text) e
-
-no_bare : (w : Parts) → name_form w ≡ true → is_bare_keyword (lower_parts w) ≡ false
-no_bare no_part e = refl
-no_bare (part (plain text) no_part) e =
-    let free : is_free_command (text ++ []) ≡ true = e in
-    free_no_keyword text (subst (λ (t : List ℕ). is_free_command t ≡ true) (append-nil text) free)
-no_bare (part (plain text) (part q qs)) e = refl
-no_bare (part (exact text) ps) e = refl
-no_bare (part (double qs) ps) e = refl
-no_bare (part (param name) ps) e = refl
-
-pub command_prints : (c : Command) (bytes : List ℕ) → CommandAt c bytes → command_form c ≡ true → command_printable (lower_command c) ≡ true
-command_prints (simple no_assign no_word) bytes h f = absurd h
-command_prints (simple no_assign (word w ws)) bytes h f =
-    let k = both (name_form w) (words_form ws) f in
-    and_2 (ap not (no_bare w k.0)) (and_2 (word_prints w bytes h.0 h.1) (words_print ws h.0 h.2))
-command_prints (simple (assign name append v no_assign) no_word) bytes h f =
-    let n = named name bytes (sign append h.0) h.1 h.2 in
-    and_2 n (value_prints append name v h.0 n h.3)
-command_prints (simple (assign name append v no_assign) (word w ws)) bytes h f = absurd h
-command_prints (simple (assign name append v (assign name' append' v' more)) ws) bytes h f = absurd h
+chain_fitting : (d : ℕ) (c : Chain) → chain_taken c ≡ true → chain_fits false d (lower_chain c) ≡ true
+chain_fitting d (chain (pipeline false (stage c no_stage)) no_link) e = rw (command_fitting d c e) refl
+chain_fitting d (chain (pipeline false no_stage) ls) e = absurd cc
+chain_fitting d (chain (pipeline false (stage c (stage k ks))) ls) e = absurd cc
+chain_fitting d (chain (pipeline false (stage c no_stage)) (and_link p ls)) e = absurd cc
+chain_fitting d (chain (pipeline false (stage c no_stage)) (or_link p ls)) e = absurd cc
+chain_fitting d (chain (pipeline true ss) ls) e = absurd cc
 
 -- ---- scripts
 
-pub lowered_printable : (ls : List (List ℕ)) (s : Script) → LinesAt ls s → script_printable (lower s) ≡ true
-lowered_printable [] no_item h = refl
-lowered_printable [] (item c more) h = absurd h
-lowered_printable [] (background_item c more) h = absurd h
-lowered_printable (l ∷ ls) s (inl h) = lowered_printable ls s h.1
-lowered_printable (l ∷ ls) s (inr h) =
-    subst (λ (x : Script). script_printable (lower x) ≡ true) (sym h.2) (and_2 (command_prints h.0 h.3.1 h.3.3 h.3.4) (lowered_printable ls h.1 h.4))
-
-pub reads_printable : (text : List ℕ) (s : Script) → Reads text s → script_printable (lower s) ≡ true
-reads_printable text s h = lowered_printable (slice_split is_newline text) s h
+pub printable : (s : Script) → script_taken s ≡ true → script_printable (lower s) ≡ true
+printable no_item e = refl
+printable (item c more) e =
+    let y = both (chain_taken c) (script_taken more) e in
+    rw (chain_fitting 0 c y.0, printable more y.1) refl
+printable (background_item c more) e = absurd cc

@@ -17,11 +17,9 @@ use Rattle.bash2sh.specs.Answers.{refused_line}
 use Rattle.bash2sh.specs.Sinks.{Sinks, Line}
 use Rattle.bash2sh.specs.Spelling.{Reads}
 use Rattle.bash2sh.specs.Jobs.{script_limit, OnReport, OnBashJob, OnShJob}
-use Rattle.bash2sh.proofs.LineLaws.{form_of_lines}
 use Rattle.bash2sh.proofs.Meaning.{bash_specified}
 use Rattle.span_text.specs.Places.{line_of, column_of}
-use Rattle.span_text.specs.Scanning.{is_newline}
-use Rattle.std.specs.List.{slice_split}
+use Rattle.bash2sh.proofs.Spelled.{reads_taken}
 
 -- ---- the script of a job is within its limit
 
@@ -38,7 +36,7 @@ pub bash_job : (job : Job) (s : Script) (r : Report) (b a : Sinks) (st : Status)
 bash_job job s r b a status.Done h e o = (s, h, subst (λ (x : Report). OnReport b a x status.Done) e o)
 bash_job job s r b a status.GoesOn h e o = (s, h, subst (λ (x : Report). OnReport b a x status.GoesOn) e o)
 bash_job job s r b a status.Unspecified h e o =
-    absurd (bash_specified job.world s (form_of_lines (slice_split is_newline job.script) s h) (ap (λ (x : Report). x.«end») (sym e) ∙ o.0))
+    absurd (bash_specified job.world s (reads_taken job.script s h) (ap (λ (x : Report). x.«end») (sym e) ∙ o.0))
 bash_job job s r b a status.WriteFault h e o = (s, h, subst (λ (x : Report). OnReport b a x status.WriteFault) e o)
 bash_job job s r b a status.OutOfMemory h e o = o
 bash_job job s r b a status.Usage h e o = absurd o

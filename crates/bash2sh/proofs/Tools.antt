@@ -1,5 +1,5 @@
 -- Small tools on tests, options and results.
-use Rattle.std.proofs.Common.{◌≡◌, ℕ, Bool, true, false, cond, ◌&&◌, List, [], ◌∷◌, ◌++◌, Option, Some, None, Result, Ok, Err, refl, ap, ◌⊎◌, inl, inr, append_assoc}
+use Rattle.std.proofs.Common.{◌≡◌, ℕ, Bool, true, false, cond, not, ◌&&◌, ◌||◌, List, [], ◌∷◌, ◌++◌, Option, Some, None, Result, Ok, Err, refl, ap, ◌⊎◌, inl, inr, append_assoc}
 use Rattle.std.specs.List.{list_all}
 use Rattle.span_text.specs.Scanning.{Each}
 use Rattle.bash2sh.specs.Model.{◌>>=◌, ◌>>◌}
@@ -28,6 +28,21 @@ bind_ok (Err d) f y e = absurd cc
 pub both : (a b : Bool) → (a && b) ≡ true → (a ≡ true) × (b ≡ true)
 both true b e = (refl, e)
 both false b e = absurd cc
+
+pub all_three : (a b c : Bool) → (a && b && c) ≡ true → (a ≡ true) × (b ≡ true) × (c ≡ true)
+all_three a b c e = let y = both (a && b) c e in let z = both a b y.0 in (z.0, z.1, y.1)
+
+pub all_four : (a b c d : Bool) → (a && b && c && d) ≡ true → (a ≡ true) × (b ≡ true) × (c ≡ true) × (d ≡ true)
+all_four a b c d e = let y = both (a && b && c) d e in let z = all_three a b c y.0 in (z.0, z.1, z.2, y.1)
+
+pub neither : (a b : Bool) → not (a || b) ≡ true → (a ≡ false) × (b ≡ false)
+neither true b e = absurd cc
+neither false true e = absurd cc
+neither false false e = (refl, refl)
+
+pub and_no : (a b : Bool) → b ≡ false → (a && b) ≡ false
+and_no true b e = e
+and_no false b e = refl
 
 pub each_of : (p : ℕ → Bool) (text : List ℕ) → list_all p text ≡ true → Each p text
 each_of p [] e = tt

@@ -1,34 +1,22 @@
 -- A script that was read and lowered is translated.
-use Rattle.std.proofs.Common.{◌≡◌, true, List, ℕ, sym, ap, subst, ◌∙◌, length, suc, ◌+◌, ◌≤◌, Bool, false, [], ◌∷◌, ◌++◌, refl, arith}
+use Rattle.std.proofs.Common.{◌≡◌, true, List, ℕ, sym, ap, subst, ◌∙◌, length, suc, ◌+◌, ◌*◌, ◌^◌, ◌≤◌, ◌<◌, Bool, false, [], ◌∷◌, ◌++◌, refl, arith}
 use Rattle.std.specs.List.{slice_split, onto_first}
 use Rattle.std.proofs.lemmas.List.Splits.{slice_split-cons_yes, slice_split-cons_no}
 use Rattle.span_text.specs.Scanning.{is_newline, is_blank}
 use Rattle.span_text.proofs.Runs.{Run-length}
 use Rattle.bash_tree.specs.Shape.{Script as BashScript}
-use Rattle.sh_tree.specs.Shape.{Script as ShScript}
-use Rattle.sh_tree.specs.Spelling.{Reads as ShReads}
-use Rattle.sh_tree.specs.Printing.{script_text, script_printable}
+use Rattle.sh_printing.specs.Printing.{printed}
+use Rattle.sh_printing.proofs.BackScripts.{reads_back}
+use Rattle.bash2sh.specs.Answers.{limit}
 use Rattle.bash2sh.specs.Lower.{lower}
-use Rattle.bash2sh.specs.SameMeaning.{SameMeaning}
 use Rattle.bash2sh.specs.Spelling.{Reads, IsFirstBad, total}
 use Rattle.bash2sh.specs.Translation.{IsTranslated}
-use Rattle.bash2sh.proofs.LineLaws.{form_of_lines}
 use Rattle.bash2sh.proofs.Meaning.{same_meaning}
-use Rattle.bash2sh.proofs.Printable.{reads_printable}
+use Rattle.bash2sh.proofs.Printable.{printable}
+use Rattle.bash2sh.proofs.Sizes.{lines_size}
+use Rattle.bash2sh.proofs.Spelled.{reads_taken}
 
-pub can_print : (text : List ℕ) (s : BashScript) (t : ShScript) → Reads text s → t ≡ lower s → script_printable t ≡ true
-can_print text s t h e = ap script_printable e ∙ reads_printable text s h
-
-pub is_translated : (text : List ℕ) (s : BashScript) (t : ShScript) → Reads text s → t ≡ lower s → ShReads (script_text t) t → IsTranslated text (script_text t)
-is_translated text s t h e back = record {
-  bash = s;
-  spelled = h;
-  sh = t;
-  reads = back;
-  same = subst (λ (x : ShScript). SameMeaning s x) (sym e) (same_meaning s (form_of_lines (slice_split is_newline text) s h));
-}
-
--- ---- the place of a refusal lies in its text
+-- ---- how many bytes the lines take
 
 total_onto : (b n : ℕ) (ls : List (List ℕ)) → total ls ≡ suc n → total (onto_first b ls) ≡ suc (suc n)
 total_onto b n [] e = absurd cc
@@ -44,6 +32,26 @@ split_by b bs false e more = ap total (slice_split-cons_no is_newline b bs e) �
 total_split : (text : List ℕ) → total (slice_split is_newline text) ≡ suc (length text)
 total_split [] = refl
 total_split (b ∷ bs) = split_by b bs (is_newline b) refl (total_split bs)
+
+-- ---- what is written
+
+-- spans speak of less than 2^32 bytes
+is_short : (n m : ℕ) → n ≤ limit → m ≤ 4 * suc n → m < 2 ^ 32
+is_short n m a b = omega (arith, a, b)
+
+pub is_translated : (text : List ℕ) (s : BashScript) → length text ≤ limit → Reads text s → IsTranslated text (printed (lower s))
+is_translated text s fits h =
+    let taken = reads_taken text s h in
+    let size : length (printed (lower s)) ≤ 4 * suc (length text) = subst (λ (n : ℕ). length (printed (lower s)) ≤ 4 * n) (total_split text) (lines_size (slice_split is_newline text) s h) in
+    record {
+      bash = s;
+      spelled = h;
+      sh = lower s;
+      reads = reads_back (lower s) (printable s taken) (is_short (length text) (length (printed (lower s))) fits size);
+      same = same_meaning s taken;
+    }
+
+-- ---- the place of a refusal lies in its text
 
 total_behind : (ls ms : List (List ℕ)) → total (ls ++ ms) ≡ total ls + total ms
 total_behind [] ms = omega arith

@@ -14,17 +14,17 @@ use Rattle.bash_tree.specs.declared.tree.Joint.{Joint}
 use Rattle.bash_tree.specs.declared.tree.Joint.TheVariants.{And, Or}
 use Rattle.bash_tree.specs.declared.tree.Item.{Item}
 use Rattle.bash_tree.specs.View.{view_part, parts_of, words_of, view_value, assigns_of, stages_of, links_of, link_of, view_pipeline, items_of, item_of, view_chain}
-use Rattle.sh_tree.specs.Shape as shape
-use Rattle.sh_tree.specs.declared.tree.Part.{Part as ShPart}
-use Rattle.sh_tree.specs.declared.tree.Word.{Word as ShWord}
-use Rattle.sh_tree.specs.declared.tree.Assign.{Assign as ShAssign}
-use Rattle.sh_tree.specs.declared.tree.Command.{Command as ShCommand}
-use Rattle.sh_tree.specs.declared.tree.Pipeline.{Pipeline as ShPipeline}
-use Rattle.sh_tree.specs.declared.tree.Joint.{Joint as ShJoint}
-use Rattle.sh_tree.specs.declared.tree.Item.{Item as ShItem}
-use Rattle.sh_tree.specs.View as sh
+use Rattle.sh_grammar.specs.Shape as shape
+use Rattle.sh_syntax.specs.declared.tree.Part.{Part as ShPart}
+use Rattle.sh_syntax.specs.declared.tree.Word.{Word as ShWord}
+use Rattle.sh_syntax.specs.declared.tree.Assign.{Assign as ShAssign}
+use Rattle.sh_syntax.specs.declared.tree.Command.{Command as ShCommand}
+use Rattle.sh_syntax.specs.declared.tree.Pipeline.{Pipeline as ShPipeline}
+use Rattle.sh_syntax.specs.declared.tree.Joint.{Joint as ShJoint}
+use Rattle.sh_syntax.specs.declared.tree.Item.{Item as ShItem}
+use Rattle.sh_syntax.specs.View as sh
 use Rattle.bash2sh.specs.Lower.{lower_parts, quoted_name, parts_of_value, lower_words, lower_assigns, lower_stages, lower_pipeline, lower_links, lower_chain, lower}
-use Rattle.bash2sh.specs.Trees.{part_lowered, value_parts_lowered, word_lowered, assign_seen, assign_lowered, command_seen, command_lowered, joint_lowered, link_seen, link_lowered, item_seen, item_lowered}
+use Rattle.bash2sh.specs.Trees.{part_lowered, value_parts_lowered, word_lowered, assign_lowered, command_lowered, joint_lowered, link_seen, link_lowered, item_lowered}
 
 -- ---- parts
 
@@ -44,93 +44,53 @@ appended_lowered qs name v e = ap sh.parts_of e ∙ ap (λ (x : shape.Parts). sh
 
 -- ---- words
 
-abbrev words_from : List shape.Parts → shape.Words
-words_from [] = shape.no_word
-words_from (w ∷ ws) = shape.word w (words_from ws)
-
-seen_words : (vs : List ShWord) → sh.words_of vs ≡ words_from (map sh.view_word vs)
-seen_words [] = refl
-seen_words (v ∷ vs) = ap (λ (x : shape.Words). shape.word (sh.view_word v) x) (seen_words vs)
-
-lowered_words : (ws : List Word) → words_from (map word_lowered ws) ≡ lower_words (words_of ws)
+lowered_words : (ws : List Word) → sh.words_of (map word_lowered ws) ≡ lower_words (words_of ws)
 lowered_words [] = refl
 lowered_words (w ∷ ws) = ap (λ (x : shape.Words). shape.word (word_lowered w) x) (lowered_words ws)
 
-pub words_lowered : (vs : List ShWord) (ws : List Word) → map sh.view_word vs ≡ map word_lowered ws → sh.words_of vs ≡ lower_words (words_of ws)
-words_lowered vs ws e = seen_words vs ∙ ap words_from e ∙ lowered_words ws
+pub words_lowered : (vs : List ShWord) (ws : List Word) → map sh.view_word vs ≡ map word_lowered ws → sh.words_of (map sh.view_word vs) ≡ lower_words (words_of ws)
+words_lowered vs ws e = ap sh.words_of e ∙ lowered_words ws
 
 -- ---- assignments
 
-abbrev assigns_from : List (List ℕ × shape.Value) → shape.Assigns
-assigns_from [] = shape.no_assign
-assigns_from (a ∷ more) = shape.assign a.0 a.1 (assigns_from more)
-
-seen_assigns : (bs : List ShAssign) → sh.assigns_of bs ≡ assigns_from (map assign_seen bs)
-seen_assigns [] = refl
-seen_assigns (b ∷ bs) = ap (λ (x : shape.Assigns). shape.assign b.name.text (sh.view_value b.value) x) (seen_assigns bs)
-
-lowered_assigns : (as' : List Assign) → assigns_from (map assign_lowered as') ≡ lower_assigns (assigns_of as')
+lowered_assigns : (as' : List Assign) → sh.assigns_of (map assign_lowered as') ≡ lower_assigns (assigns_of as')
 lowered_assigns [] = refl
 lowered_assigns (a ∷ more) = ap (λ (x : shape.Assigns). shape.assign (assign_lowered a).0 (assign_lowered a).1 x) (lowered_assigns more)
 
-pub assigns_lowered : (bs : List ShAssign) (as' : List Assign) → map assign_seen bs ≡ map assign_lowered as' → sh.assigns_of bs ≡ lower_assigns (assigns_of as')
-assigns_lowered bs as' e = seen_assigns bs ∙ ap assigns_from e ∙ lowered_assigns as'
+pub assigns_lowered : (bs : List ShAssign) (as' : List Assign) → map sh.view_assign bs ≡ map assign_lowered as' → sh.assigns_of (map sh.view_assign bs) ≡ lower_assigns (assigns_of as')
+assigns_lowered bs as' e = ap sh.assigns_of e ∙ lowered_assigns as'
 
 -- ---- stages
 
-abbrev stages_from : List shape.Command → shape.Stages
-stages_from [] = shape.no_stage
-stages_from (c ∷ cs) = shape.stage c (stages_from cs)
-
-seen_stages : (ds : List ShCommand) → sh.stages_of ds ≡ stages_from (map command_seen ds)
-seen_stages [] = refl
-seen_stages (d ∷ ds) = ap (λ (x : shape.Stages). shape.stage (command_seen d) x) (seen_stages ds)
-
-lowered_stages : (cs : List Command) → stages_from (map command_lowered cs) ≡ lower_stages (stages_of cs)
+lowered_stages : (cs : List Command) → sh.stages_of (map command_lowered cs) ≡ lower_stages (stages_of cs)
 lowered_stages [] = refl
 lowered_stages (c ∷ cs) = ap (λ (x : shape.Stages). shape.stage (command_lowered c) x) (lowered_stages cs)
 
-pub stages_lowered : (ds : List ShCommand) (cs : List Command) → map command_seen ds ≡ map command_lowered cs → sh.stages_of ds ≡ lower_stages (stages_of cs)
-stages_lowered ds cs e = seen_stages ds ∙ ap stages_from e ∙ lowered_stages cs
+pub stages_lowered : (ds : List ShCommand) (cs : List Command) → map sh.view_command ds ≡ map command_lowered cs → sh.stages_of (map sh.view_command ds) ≡ lower_stages (stages_of cs)
+stages_lowered ds cs e = ap sh.stages_of e ∙ lowered_stages cs
 
 -- ---- links
-
-abbrev links_from : List (ShJoint × shape.Pipeline) → shape.Links
-links_from [] = shape.no_link
-links_from (l ∷ ls) = sh.link_of l.0 l.1 (links_from ls)
-
-seen_links : (ks : List (ShJoint × ShPipeline)) → sh.links_of ks ≡ links_from (map link_seen ks)
-seen_links [] = refl
-seen_links (k ∷ ks) = ap (λ (x : shape.Links). sh.link_of k.0 (sh.view_pipeline k.1) x) (seen_links ks)
 
 link_is : (j : Joint) (p : bash.Pipeline) (ls : bash.Links) → sh.link_of (joint_lowered j) (lower_pipeline p) (lower_links ls) ≡ lower_links (link_of j p ls)
 link_is And p ls = refl
 link_is Or p ls = refl
 
-lowered_links : (ls : List (Joint × Pipeline)) → links_from (map link_lowered ls) ≡ lower_links (links_of ls)
+lowered_links : (ls : List (Joint × Pipeline)) → sh.links_of (map link_lowered ls) ≡ lower_links (links_of ls)
 lowered_links [] = refl
 lowered_links (l ∷ ls) = ap (λ (x : shape.Links). sh.link_of (link_lowered l).0 (link_lowered l).1 x) (lowered_links ls) ∙ link_is l.0 (view_pipeline l.1) (links_of ls)
 
-pub links_lowered : (ks : List (ShJoint × ShPipeline)) (ls : List (Joint × Pipeline)) → map link_seen ks ≡ map link_lowered ls → sh.links_of ks ≡ lower_links (links_of ls)
-links_lowered ks ls e = seen_links ks ∙ ap links_from e ∙ lowered_links ls
+pub links_lowered : (ks : List (ShJoint × ShPipeline)) (ls : List (Joint × Pipeline)) → map link_seen ks ≡ map link_lowered ls → sh.links_of (map link_seen ks) ≡ lower_links (links_of ls)
+links_lowered ks ls e = ap sh.links_of e ∙ lowered_links ls
 
 -- ---- items
 
-abbrev items_from : List shape.Chain → shape.Script
-items_from [] = shape.no_item
-items_from (c ∷ cs) = shape.item c (items_from cs)
-
-seen_items : (js : List ShItem) → sh.items_of js ≡ items_from (map item_seen js)
-seen_items [] = refl
-seen_items (j ∷ js) = ap (λ (x : shape.Script). shape.item (item_seen j) x) (seen_items js)
-
-item_is : (b : Option Span) (c : bash.Chain) (s : bash.Script) → shape.item (lower_chain c) (lower s) ≡ lower (item_of b c s)
+item_is : (b : Option Span) (c : bash.Chain) (s : bash.Script) → shape.next_chain (lower_chain c) (lower s) ≡ lower (item_of b c s)
 item_is None c s = refl
 item_is (Some at) c s = refl
 
-lowered_items : (is : List Item) → items_from (map item_lowered is) ≡ lower (items_of is)
+lowered_items : (is : List Item) → sh.items_of (map item_lowered is) ≡ lower (items_of is)
 lowered_items [] = refl
-lowered_items (i ∷ is) = ap (λ (x : shape.Script). shape.item (item_lowered i) x) (lowered_items is) ∙ item_is i.background (view_chain i.chain) (items_of is)
+lowered_items (i ∷ is) = ap (λ (x : shape.Script). shape.next_chain (item_lowered i) x) (lowered_items is) ∙ item_is i.background (view_chain i.chain) (items_of is)
 
-pub items_lowered : (js : List ShItem) (is : List Item) → map item_seen js ≡ map item_lowered is → sh.items_of js ≡ lower (items_of is)
-items_lowered js is e = seen_items js ∙ ap items_from e ∙ lowered_items is
+pub items_lowered : (js : List ShItem) (is : List Item) → map sh.view_item js ≡ map item_lowered is → sh.items_of (map sh.view_item js) ≡ lower (items_of is)
+items_lowered js is e = ap sh.items_of e ∙ lowered_items is

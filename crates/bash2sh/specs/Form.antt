@@ -2,7 +2,7 @@
 use Rattle.std.specs.Prelude.{ℕ, Bool, true, false, not, ◌&&◌, ◌||◌, List, [], ◌++◌}
 use Rattle.span_text.specs.Names.{is_reserved}
 use Rattle.span_text.specs.KnownNames.{is_known_command, is_special_name}
-use Rattle.bash_tree.specs.Shape.{Part, plain, exact, double, param, Parts, no_part, part, Words, no_word, word, Value, no_value, value, Assigns, no_assign, assign, Command, simple, Stages, no_stage, stage, Pipeline, pipeline, no_link, and_link, or_link, Chain, chain, Script, no_item, item, background_item}
+use Rattle.bash_tree.specs.Shape.{Part, plain, exact, double, param, Parts, no_part, part, Words, no_word, word, Value, no_value, value, Assigns, no_assign, assign, Command, simple}
 
 -- a variable that no shell sets by itself, and that isn't the translation's own
 abbrev pub is_free_name : List ℕ → Bool
@@ -86,22 +86,3 @@ command_form (simple no_assign (word w ws)) = name_form w && words_form ws
 command_form (simple (assign name append v no_assign) no_word) = is_free_name name && value_form v
 command_form (simple (assign name append v no_assign) (word w ws)) = false
 command_form (simple (assign name append v (assign name' append' v' more)) ws) = false
-
-abbrev pub stages_form : Stages → Bool
-stages_form no_stage = false
-stages_form (stage c no_stage) = command_form c
-stages_form (stage c (stage d ds)) = false
-
-abbrev pub pipeline_form : Pipeline → Bool
-pipeline_form (pipeline false ss) = stages_form ss
-pipeline_form (pipeline true ss) = false
-
-abbrev pub chain_form : Chain → Bool
-chain_form (chain p no_link) = pipeline_form p
-chain_form (chain p (and_link q ls)) = false
-chain_form (chain p (or_link q ls)) = false
-
-abbrev pub script_form : Script → Bool
-script_form no_item = true
-script_form (item c more) = chain_form c && script_form more
-script_form (background_item c more) = false

@@ -1,7 +1,7 @@
 -- The sh text of commands, as it is made line by line.
 use Rattle.std.specs.Prelude.{◌≡◌, ℕ, List, [], ◌++◌, Option, Some, None, Result, Ok, Err}
 use Rattle.bash_tree.specs.Shape.{Command}
-use Rattle.sh_tree.specs.Printing.{script_text}
+use Rattle.sh_printing.specs.Printing.{printed}
 use Rattle.bash2sh.specs.Lower.{lower}
 use Rattle.bash2sh.specs.Model.{put, script_from}
 use Rattle.bash2sh.specs.declared.fault.Stop.{Stop}
@@ -11,7 +11,7 @@ use Rattle.bash2sh.specs.declared.fault.ReadFault.TheVariants as fault
 
 -- the sh text of these commands, a line each
 abbrev pub text_from : List Command → List ℕ
-text_from cs = script_text (lower (script_from cs))
+text_from cs = printed (lower (script_from cs))
 
 -- the text of a line's command, where it has one, stands behind what was written
 abbrev pub PutsLine : Result (Unit {0}) Stop → Option (Option Command) → List ℕ → List ℕ → Type 0

@@ -2,14 +2,14 @@
 use Rattle.std.specs.Prelude.{ℕ, Bool, true, false, List}
 use Rattle.bash_tree.specs.Shape as bash
 use Rattle.bash_tree.specs.Shape.{plain, exact, double, param, no_part, part, no_word, word, no_value, value, no_assign, assign, simple, no_stage, stage, pipeline, no_link, and_link, or_link, chain, no_item, item, background_item}
-use Rattle.sh_tree.specs.Shape as sh
+use Rattle.sh_grammar.specs.Shape as sh
 
 abbrev mutual
   pub lower_part : bash.Part → sh.Part
   lower_part (plain text) = sh.plain text
   lower_part (exact text) = sh.exact text
   lower_part (double ps) = sh.double (lower_parts ps)
-  lower_part (param name) = sh.param name
+  lower_part (param name) = sh.param (sh.named name) sh.as_is
 
   pub lower_parts : bash.Parts → sh.Parts
   lower_parts no_part = sh.no_part
@@ -21,7 +21,7 @@ lower_words (word w ws) = sh.word (lower_parts w) (lower_words ws)
 
 -- `"$name"`
 abbrev pub quoted_name : List ℕ → sh.Part
-quoted_name name = sh.double (sh.part (sh.param name) sh.no_part)
+quoted_name name = sh.double (sh.part (sh.param (sh.named name) sh.as_is) sh.no_part)
 
 abbrev pub parts_of_value : bash.Value → sh.Parts
 parts_of_value no_value = sh.no_part
@@ -40,7 +40,7 @@ lower_assigns no_assign = sh.no_assign
 lower_assigns (assign name append v more) = sh.assign name (lower_value append name v) (lower_assigns more)
 
 abbrev pub lower_command : bash.Command → sh.Command
-lower_command (simple as' ws) = sh.simple (lower_assigns as') (lower_words ws)
+lower_command (simple as' ws) = sh.command (sh.simple (lower_assigns as') (lower_words ws)) sh.no_redirect
 
 abbrev pub lower_stages : bash.Stages → sh.Stages
 lower_stages no_stage = sh.no_stage
@@ -58,6 +58,6 @@ abbrev pub lower_chain : bash.Chain → sh.Chain
 lower_chain (chain p ls) = sh.chain (lower_pipeline p) (lower_links ls)
 
 abbrev pub lower : bash.Script → sh.Script
-lower no_item = sh.no_item
-lower (item c more) = sh.item (lower_chain c) (lower more)
-lower (background_item c more) = sh.item (lower_chain c) (lower more)
+lower no_item = sh.no_chain
+lower (item c more) = sh.next_chain (lower_chain c) (lower more)
+lower (background_item c more) = sh.next_chain (lower_chain c) (lower more)

@@ -7,8 +7,8 @@ use Rattle.shell_world.specs.World.{IsGood}
 use Rattle.shell_world.specs.Ends.{Ended, Going, Unknown, trace_of, IsPrefix}
 use Rattle.bash_tree.specs.Shape.{Script as BashScript}
 use Rattle.bash_meaning.specs.Meaning.{run as bash_run}
-use Rattle.sh_tree.specs.Shape.{Script as ShScript}
-use Rattle.sh_meaning.specs.Meaning.{run as sh_run}
+use Rattle.sh_grammar.specs.Shape.{Script as ShScript}
+use Rattle.sh_meaning.specs.Running.{run as sh_run}
 
 -- In every good world, with its latitude, and under any two numbers as bounds:
 pub record SameMeaning (bash : BashScript) (sh : ShScript) : Type 0 where

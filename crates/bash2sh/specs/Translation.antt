@@ -2,8 +2,8 @@
 use Rattle.std.specs.Prelude.{◌≡◌, ℕ, ◌≤◌, List, Option, Result, Ok, Err}
 use Rattle.span_text.specs.Streams.{Rose, Grows, Falls}
 use Rattle.bash_tree.specs.Shape.{Script as BashScript}
-use Rattle.sh_tree.specs.Shape.{Script as ShScript}
-use Rattle.sh_tree.specs.Spelling.{Reads as ShReads}
+use Rattle.sh_grammar.specs.Shape.{Script as ShScript}
+use Rattle.sh_grammar.specs.Spelling.{Reads as ShReads}
 use Rattle.bash2sh.specs.SameMeaning.{SameMeaning}
 use Rattle.bash2sh.specs.Spelling.{Reads, IsFirstBad}
 use Rattle.bash2sh.specs.declared.fault.TranslateFault.{TranslateFault}

@@ -1,4 +1,4 @@
--- Each node of a Bash tree, as it is lowered; and the nodes of an sh tree, seen one by one.
+-- Each node of a Bash tree, as it is lowered; and the links of an sh tree, seen one by one.
 use Rattle.std.specs.Prelude.{ℕ, List, [], map, Some, None}
 use Rattle.bash_tree.specs.declared.tree.Part.{Part}
 use Rattle.bash_tree.specs.declared.tree.Word.{Word}
@@ -11,14 +11,11 @@ use Rattle.bash_tree.specs.declared.tree.Joint.{Joint}
 use Rattle.bash_tree.specs.declared.tree.Joint.TheVariants.{And, Or}
 use Rattle.bash_tree.specs.declared.tree.Item.{Item}
 use Rattle.bash_tree.specs.View.{view_part, view_word, view_value, command_of, view_pipeline, view_chain}
-use Rattle.sh_tree.specs.Shape as shape
-use Rattle.sh_tree.specs.declared.tree.Assign.{Assign as ShAssign}
-use Rattle.sh_tree.specs.declared.tree.Command.{Command as ShCommand}
-use Rattle.sh_tree.specs.declared.tree.Pipeline.{Pipeline as ShPipeline}
-use Rattle.sh_tree.specs.declared.tree.Joint.{Joint as ShJoint}
-use Rattle.sh_tree.specs.declared.tree.Joint.TheVariants.{And as ShAnd, Or as ShOr}
-use Rattle.sh_tree.specs.declared.tree.Item.{Item as ShItem}
-use Rattle.sh_tree.specs.View as sh
+use Rattle.sh_grammar.specs.Shape as shape
+use Rattle.sh_syntax.specs.declared.tree.Pipeline.{Pipeline as ShPipeline}
+use Rattle.sh_syntax.specs.declared.tree.Joint.{Joint as ShJoint}
+use Rattle.sh_syntax.specs.declared.tree.Joint.TheVariants.{And as ShAnd, Or as ShOr}
+use Rattle.sh_syntax.specs.View as sh
 use Rattle.bash2sh.specs.Lower.{lower_part, lower_parts, lower_value, lower_command, lower_pipeline, lower_chain}
 
 abbrev pub part_lowered : Part → shape.Part
@@ -33,14 +30,8 @@ value_parts_lowered (WordValue None) = []
 value_parts_lowered (WordValue (Some w)) = map part_lowered w.parts
 
 -- an assignment: its name and its value
-abbrev pub assign_seen : ShAssign → List ℕ × shape.Value
-assign_seen a = (a.name.text, sh.view_value a.value)
-
 abbrev pub assign_lowered : Assign → List ℕ × shape.Value
 assign_lowered a = (a.name.text, lower_value a.append a.name.text (view_value a.value))
-
-abbrev pub command_seen : ShCommand → shape.Command
-command_seen c = sh.command_of c.kind
 
 abbrev pub command_lowered : Command → shape.Command
 command_lowered c = lower_command (command_of c.kind)
@@ -55,9 +46,6 @@ link_seen l = (l.0, sh.view_pipeline l.1)
 
 abbrev pub link_lowered : Joint × Pipeline → ShJoint × shape.Pipeline
 link_lowered l = (joint_lowered l.0, lower_pipeline (view_pipeline l.1))
-
-abbrev pub item_seen : ShItem → shape.Chain
-item_seen i = sh.view_chain i.chain
 
 abbrev pub item_lowered : Item → shape.Chain
 item_lowered i = lower_chain (view_chain i.chain)

@@ -1,11 +1,9 @@
 //! The sh text of a script, made line by line: no more is held than the tree of one line and the text so far.
 
-ghost use Rattle.std.specs.Prelude.{◌≡◌, ◌++◌, [], ◌∷◌, true, OnOk};
+ghost use Rattle.std.specs.Prelude.{◌≡◌, ◌++◌, [], ◌∷◌, OnOk};
 ghost use Rattle.std.specs.List.{slice_split};
 ghost use Rattle.span_text.specs.Scanning.{is_newline};
 ghost use Rattle.bash_tree.specs.View.{command_of};
-ghost use Rattle.sh_tree.specs.Printing.{command_printable};
-ghost use Rattle.bash2sh.specs.Lower.{lower_command};
 ghost use Rattle.bash2sh.specs.Model.{line_at, lines_at};
 ghost use Rattle.bash2sh.specs.LineTexts.{text_from, PutsLine, GivesText};
 
@@ -15,7 +13,7 @@ use crate::lines::{first_line, item, line_of};
 use crate::lowering::lower;
 use crate::words::span;
 use bash_tree::{CommandKind, Script};
-use sh_tree::print;
+use sh_printer::print;
 use span_text::{Class, List, Memory, Span, Text, run_len};
 use std::alloc::Global;
 
@@ -26,7 +24,6 @@ fn put_command(
     span: Span,
     written: &mut TextSink,
 ) -> Result<(), Memory>
-    requires { command_printable (lower_command (command_of kind)) ≡ true }
     ensures { OnOk result (written.new.text ≡ written.old.text ++ text_from (command_of kind ∷ [])) }
 {
     let mut items = List::new(alloc);

@@ -2,75 +2,75 @@
 
 ghost use Rattle.std.specs.Prelude.{◌≡◌, ◌∷◌, ◌++◌, true, map, IfOk, OnOk};
 ghost use Rattle.bash_tree.specs.View as bash;
-ghost use Rattle.sh_tree.specs.View as sh;
-ghost use Rattle.sh_tree.specs.Shape as shape;
+ghost use Rattle.sh_syntax.specs.View as sh;
+ghost use Rattle.sh_grammar.specs.Shape as shape;
 ghost use Rattle.bash2sh.specs.Lower as to_sh;
-ghost use Rattle.bash2sh.specs.Trees.{part_lowered, value_parts_lowered, word_lowered, assign_seen, assign_lowered, command_seen, command_lowered, joint_lowered, link_seen, link_lowered, item_seen, item_lowered};
+ghost use Rattle.bash2sh.specs.Trees.{part_lowered, value_parts_lowered, word_lowered, assign_lowered, command_lowered, joint_lowered, link_seen, link_lowered, item_lowered};
 
 use span_text::{List, Memory, Span, Text};
 use std::alloc::Global;
 
 /// The same name.
-fn lower_name(alloc: Global, name: &bash_tree::Name) -> Result<sh_tree::Name, Memory>
+fn lower_name(alloc: Global, name: &bash_tree::Name) -> Result<sh_syntax::Name, Memory>
     ensures { IfOk result (λ n. n.text ≡ name.now.text) }
 {
-    Ok(sh_tree::Name {
+    Ok(sh_syntax::Name {
         text: Text::copy(alloc, name.text.bytes())?,
         span: name.span,
     })
 }
 
 /// `$name`
-#[tactic(auto, using(sh_tree::proofs::Views::param_is))]
-fn name_param(alloc: Global, name: &bash_tree::Name) -> Result<sh_tree::PartKind, Memory>
-    ensures { IfOk result (λ k. sh.view_kind k ≡ shape.param name.now.text) }
+#[tactic(auto, using(sh_syntax::proofs::Views::param_is, sh_syntax::proofs::Views::as_is_is))]
+fn name_param(alloc: Global, name: &bash_tree::Name) -> Result<sh_syntax::PartKind, Memory>
+    ensures { IfOk result (λ k. sh.view_part_kind k ≡ shape.param (shape.named name.now.text) shape.as_is) }
 {
-    Ok(sh_tree::PartKind::Param {
-        param: sh_tree::Param::Name(lower_name(alloc, name)?),
-        op: sh_tree::ParamOp::Plain,
+    Ok(sh_syntax::PartKind::Param {
+        param: sh_syntax::Param::Name(lower_name(alloc, name)?),
+        op: sh_syntax::ParamOp::Plain,
     })
 }
 
-fn lower_param(alloc: Global, param: &bash_tree::Param) -> Result<sh_tree::PartKind, Memory>
-    ensures { IfOk result (λ k. sh.view_kind k ≡ shape.param (bash.name_of_param param.now)) }
+fn lower_param(alloc: Global, param: &bash_tree::Param) -> Result<sh_syntax::PartKind, Memory>
+    ensures { IfOk result (λ k. sh.view_part_kind k ≡ shape.param (shape.named (bash.name_of_param param.now)) shape.as_is) }
 {
     let bash_tree::Param::Name(name) = param;
     name_param(alloc, name)
 }
 
-#[tactic(auto, using(sh_tree::proofs::Views::plain_is))]
-fn lower_plain(alloc: Global, text: &[u8]) -> Result<sh_tree::PartKind, Memory>
-    ensures { IfOk result (λ k. sh.view_kind k ≡ shape.plain text.now) }
+#[tactic(auto, using(sh_syntax::proofs::Views::plain_is))]
+fn lower_plain(alloc: Global, text: &[u8]) -> Result<sh_syntax::PartKind, Memory>
+    ensures { IfOk result (λ k. sh.view_part_kind k ≡ shape.plain text.now) }
 {
-    Ok(sh_tree::PartKind::Plain(Text::copy(alloc, text)?))
+    Ok(sh_syntax::PartKind::Plain(Text::copy(alloc, text)?))
 }
 
-#[tactic(auto, using(sh_tree::proofs::Views::exact_is))]
-fn lower_exact(alloc: Global, text: &[u8]) -> Result<sh_tree::PartKind, Memory>
-    ensures { IfOk result (λ k. sh.view_kind k ≡ shape.exact text.now) }
+#[tactic(auto, using(sh_syntax::proofs::Views::exact_is))]
+fn lower_exact(alloc: Global, text: &[u8]) -> Result<sh_syntax::PartKind, Memory>
+    ensures { IfOk result (λ k. sh.view_part_kind k ≡ shape.exact text.now) }
 {
-    Ok(sh_tree::PartKind::Exact(Text::copy(alloc, text)?))
+    Ok(sh_syntax::PartKind::Exact(Text::copy(alloc, text)?))
 }
 
 /// Parts between double quotes.
-#[tactic(auto, using(sh_tree::proofs::Views::double_is))]
-fn double(parts: List<sh_tree::Part>) -> sh_tree::PartKind
-    ensures { sh.view_kind result ≡ shape.double (sh.parts_of (map sh.view_part parts)) }
+#[tactic(auto, using(sh_syntax::proofs::Views::double_is))]
+fn double(parts: List<sh_syntax::Part>) -> sh_syntax::PartKind
+    ensures { sh.view_part_kind result ≡ shape.double (sh.parts_of (map sh.view_part parts)) }
 {
-    sh_tree::PartKind::Double(parts)
+    sh_syntax::PartKind::Double(parts)
 }
 
-#[tactic(auto, using(sh_tree::proofs::Views::part_is))]
-fn part(kind: sh_tree::PartKind, span: Span) -> sh_tree::Part
-    ensures { sh.view_part result ≡ sh.view_kind kind }
+#[tactic(auto, using(sh_syntax::proofs::Views::part_is))]
+fn part(kind: sh_syntax::PartKind, span: Span) -> sh_syntax::Part
+    ensures { sh.view_part result ≡ sh.view_part_kind kind }
 {
-    sh_tree::Part { kind, span }
+    sh_syntax::Part { kind, span }
 }
 
 #[cycle(lower)]
 #[tactic(auto, using(bash_tree::proofs::Views::plain_is, bash_tree::proofs::Views::exact_is, bash_tree::proofs::Views::double_is, bash_tree::proofs::Views::param_is, crate::proofs::Trees::parts_lowered))]
-fn lower_kind(alloc: Global, kind: &bash_tree::PartKind) -> Result<sh_tree::PartKind, Memory>
-    ensures { IfOk result (λ k. sh.view_kind k ≡ to_sh.lower_part (bash.view_kind kind.now)) }
+fn lower_kind(alloc: Global, kind: &bash_tree::PartKind) -> Result<sh_syntax::PartKind, Memory>
+    ensures { IfOk result (λ k. sh.view_part_kind k ≡ to_sh.lower_part (bash.view_kind kind.now)) }
 {
     match kind {
         bash_tree::PartKind::Plain(text) => lower_plain(alloc, text.bytes()),
@@ -82,7 +82,7 @@ fn lower_kind(alloc: Global, kind: &bash_tree::PartKind) -> Result<sh_tree::Part
 
 #[cycle(lower)]
 #[tactic(auto, using(bash_tree::proofs::Views::part_is))]
-fn lower_part(alloc: Global, from: &bash_tree::Part) -> Result<sh_tree::Part, Memory>
+fn lower_part(alloc: Global, from: &bash_tree::Part) -> Result<sh_syntax::Part, Memory>
     ensures { IfOk result (λ p. sh.view_part p ≡ part_lowered from.now) }
 {
     let kind = lower_kind(alloc, &from.kind)?;
@@ -90,7 +90,7 @@ fn lower_part(alloc: Global, from: &bash_tree::Part) -> Result<sh_tree::Part, Me
 }
 
 #[cycle(lower)]
-fn lower_parts(alloc: Global, parts: &[bash_tree::Part]) -> Result<List<sh_tree::Part>, Memory>
+fn lower_parts(alloc: Global, parts: &[bash_tree::Part]) -> Result<List<sh_syntax::Part>, Memory>
     ensures { IfOk result (λ ps. map sh.view_part ps ≡ map part_lowered parts.now) }
 {
     let mut lowered = List::new(alloc);
@@ -100,17 +100,22 @@ fn lower_parts(alloc: Global, parts: &[bash_tree::Part]) -> Result<List<sh_tree:
     Ok(lowered)
 }
 
-#[tactic(auto, using(crate::proofs::Trees::parts_lowered))]
-fn lower_word(alloc: Global, word: &bash_tree::Word) -> Result<sh_tree::Word, Memory>
-    ensures { IfOk result (λ w. sh.view_word w ≡ word_lowered word.now) }
+#[tactic(auto, using(crate::proofs::ShNodes::word_rolled))]
+fn word(parts: List<sh_syntax::Part>, span: Span) -> sh_syntax::Word
+    ensures { sh.view_word result ≡ sh.parts_of (map sh.view_part parts) }
 {
-    Ok(sh_tree::Word {
-        parts: lower_parts(alloc, word.parts.as_slice())?,
-        span: word.span,
-    })
+    sh_syntax::Word { parts, span }
 }
 
-fn lower_words(alloc: Global, words: &[bash_tree::Word]) -> Result<List<sh_tree::Word>, Memory>
+#[tactic(auto, using(crate::proofs::Trees::parts_lowered))]
+fn lower_word(alloc: Global, from: &bash_tree::Word) -> Result<sh_syntax::Word, Memory>
+    ensures { IfOk result (λ w. sh.view_word w ≡ word_lowered from.now) }
+{
+    let parts = lower_parts(alloc, from.parts.as_slice())?;
+    Ok(word(parts, from.span))
+}
+
+fn lower_words(alloc: Global, words: &[bash_tree::Word]) -> Result<List<sh_syntax::Word>, Memory>
     ensures { IfOk result (λ ws. map sh.view_word ws ≡ map word_lowered words.now) }
 {
     let mut lowered = List::new(alloc);
@@ -123,22 +128,23 @@ fn lower_words(alloc: Global, words: &[bash_tree::Word]) -> Result<List<sh_tree:
 // ---- assignments
 
 /// A value without `+`.
+#[tactic(auto, using(crate::proofs::ShNodes::no_value_seen, crate::proofs::ShNodes::value_seen))]
 fn lower_plain_value(
     alloc: Global,
     value: &bash_tree::AssignValue,
-) -> Result<sh_tree::AssignValue, Memory>
+) -> Result<sh_syntax::AssignValue, Memory>
     ensures { IfOk result (λ v. sh.view_value v ≡ to_sh.plain_value (bash.view_value value.now)) }
 {
     match value {
-        bash_tree::AssignValue::Word(None) => Ok(sh_tree::AssignValue::Word(None)),
-        bash_tree::AssignValue::Word(Some(word)) => Ok(sh_tree::AssignValue::Word(Some(lower_word(
+        bash_tree::AssignValue::Word(None) => Ok(sh_syntax::AssignValue::Word(None)),
+        bash_tree::AssignValue::Word(Some(word)) => Ok(sh_syntax::AssignValue::Word(Some(lower_word(
             alloc, word,
         )?))),
     }
 }
 
 /// `"$name"`
-fn quoted_name(alloc: Global, name: &bash_tree::Name) -> Result<sh_tree::Part, Memory>
+fn quoted_name(alloc: Global, name: &bash_tree::Name) -> Result<sh_syntax::Part, Memory>
     ensures { IfOk result (λ p. sh.view_part p ≡ to_sh.quoted_name name.now.text) }
 {
     let mut inner = List::new(alloc);
@@ -150,7 +156,7 @@ fn quoted_name(alloc: Global, name: &bash_tree::Name) -> Result<sh_tree::Part, M
 fn push_parts(
     alloc: Global,
     parts: &[bash_tree::Part],
-    into: &mut List<sh_tree::Part>,
+    into: &mut List<sh_syntax::Part>,
 ) -> Result<(), Memory>
     ensures { OnOk result (map sh.view_part into.new ≡ map sh.view_part into.old ++ map part_lowered parts.now) }
 {
@@ -164,7 +170,7 @@ fn push_parts(
 fn push_value(
     alloc: Global,
     value: &bash_tree::AssignValue,
-    into: &mut List<sh_tree::Part>,
+    into: &mut List<sh_syntax::Part>,
 ) -> Result<(), Memory>
     ensures { OnOk result (map sh.view_part into.new ≡ map sh.view_part into.old ++ value_parts_lowered value.now) }
 {
@@ -174,7 +180,7 @@ fn push_value(
     }
 }
 
-fn appended_parts(alloc: Global, assign: &bash_tree::Assign) -> Result<List<sh_tree::Part>, Memory>
+fn appended_parts(alloc: Global, assign: &bash_tree::Assign) -> Result<List<sh_syntax::Part>, Memory>
     ensures { IfOk result (λ ps. map sh.view_part ps ≡ to_sh.quoted_name assign.now.name.text ∷ value_parts_lowered assign.now.value) }
 {
     let mut parts = List::new(alloc);
@@ -184,17 +190,15 @@ fn appended_parts(alloc: Global, assign: &bash_tree::Assign) -> Result<List<sh_t
 }
 
 /// `"$name"` with the value behind it.
-#[tactic(auto, using(crate::proofs::Trees::appended_lowered))]
-fn lower_appended(alloc: Global, assign: &bash_tree::Assign) -> Result<sh_tree::AssignValue, Memory>
+#[tactic(auto, using(crate::proofs::ShNodes::value_seen, crate::proofs::Trees::appended_lowered))]
+fn lower_appended(alloc: Global, assign: &bash_tree::Assign) -> Result<sh_syntax::AssignValue, Memory>
     ensures { IfOk result (λ v. sh.view_value v ≡ to_sh.lower_value true assign.now.name.text (bash.view_value assign.now.value)) }
 {
-    Ok(sh_tree::AssignValue::Word(Some(sh_tree::Word {
-        parts: appended_parts(alloc, assign)?,
-        span: assign.span,
-    })))
+    let parts = appended_parts(alloc, assign)?;
+    Ok(sh_syntax::AssignValue::Word(Some(word(parts, assign.span))))
 }
 
-fn lower_value(alloc: Global, assign: &bash_tree::Assign) -> Result<sh_tree::AssignValue, Memory>
+fn lower_value(alloc: Global, assign: &bash_tree::Assign) -> Result<sh_syntax::AssignValue, Memory>
     ensures { IfOk result (λ v. sh.view_value v ≡ to_sh.lower_value assign.now.append assign.now.name.text (bash.view_value assign.now.value)) }
 {
     if assign.append {
@@ -204,10 +208,11 @@ fn lower_value(alloc: Global, assign: &bash_tree::Assign) -> Result<sh_tree::Ass
     }
 }
 
-fn lower_assign(alloc: Global, assign: &bash_tree::Assign) -> Result<sh_tree::Assign, Memory>
-    ensures { IfOk result (λ a. assign_seen a ≡ assign_lowered assign.now) }
+#[tactic(auto, using(sh_syntax::proofs::Views::assign_is))]
+fn lower_assign(alloc: Global, assign: &bash_tree::Assign) -> Result<sh_syntax::Assign, Memory>
+    ensures { IfOk result (λ a. sh.view_assign a ≡ assign_lowered assign.now) }
 {
-    Ok(sh_tree::Assign {
+    Ok(sh_syntax::Assign {
         name: lower_name(alloc, &assign.name)?,
         value: lower_value(alloc, assign)?,
         span: assign.span,
@@ -217,8 +222,8 @@ fn lower_assign(alloc: Global, assign: &bash_tree::Assign) -> Result<sh_tree::As
 fn lower_assigns(
     alloc: Global,
     assigns: &[bash_tree::Assign],
-) -> Result<List<sh_tree::Assign>, Memory>
-    ensures { IfOk result (λ as'. map assign_seen as' ≡ map assign_lowered assigns.now) }
+) -> Result<List<sh_syntax::Assign>, Memory>
+    ensures { IfOk result (λ as'. map sh.view_assign as' ≡ map assign_lowered assigns.now) }
 {
     let mut lowered = List::new(alloc);
     for assign in assigns {
@@ -229,34 +234,47 @@ fn lower_assigns(
 
 // ---- commands
 
-#[tactic(auto, using(crate::proofs::Trees::assigns_lowered, crate::proofs::Trees::words_lowered))]
+#[tactic(auto, using(sh_syntax::proofs::Views::simple_is, crate::proofs::Trees::assigns_lowered, crate::proofs::Trees::words_lowered))]
 fn lower_simple(
     alloc: Global,
     kind: &bash_tree::CommandKind,
-) -> Result<sh_tree::CommandKind, Memory>
-    ensures { IfOk result (λ k. sh.command_of k ≡ to_sh.lower_command (bash.command_of kind.now)) }
+) -> Result<sh_syntax::CommandKind, Memory>
+    ensures { IfOk result (λ k. shape.command (sh.view_kind k) shape.no_redirect ≡ to_sh.lower_command (bash.command_of kind.now)) }
 {
     let bash_tree::CommandKind::Simple { assigns, words } = kind;
-    Ok(sh_tree::CommandKind::Simple {
+    Ok(sh_syntax::CommandKind::Simple {
         assigns: lower_assigns(alloc, assigns.as_slice())?,
         words: lower_words(alloc, words.as_slice())?,
     })
 }
 
-fn lower_command(alloc: Global, command: &bash_tree::Command) -> Result<sh_tree::Command, Memory>
-    ensures { IfOk result (λ c. command_seen c ≡ command_lowered command.now) }
+/// A command without redirections.
+#[tactic(auto, using(crate::proofs::ShNodes::command_rolled))]
+fn command(alloc: Global, kind: sh_syntax::CommandKind, span: Span) -> sh_syntax::Command
+    ensures { sh.view_command result ≡ shape.command (sh.view_kind kind) shape.no_redirect }
 {
-    Ok(sh_tree::Command {
-        kind: lower_simple(alloc, &command.kind)?,
-        span: command.span,
-    })
+    sh_syntax::Command {
+        kind,
+        redirects: List::new(alloc),
+        span,
+    }
+}
+
+fn lower_command(
+    alloc: Global,
+    from: &bash_tree::Command,
+) -> Result<sh_syntax::Command, Memory>
+    ensures { IfOk result (λ c. sh.view_command c ≡ command_lowered from.now) }
+{
+    let kind = lower_simple(alloc, &from.kind)?;
+    Ok(command(alloc, kind, from.span))
 }
 
 fn lower_stages(
     alloc: Global,
     stages: &[bash_tree::Command],
-) -> Result<List<sh_tree::Command>, Memory>
-    ensures { IfOk result (λ cs. map command_seen cs ≡ map command_lowered stages.now) }
+) -> Result<List<sh_syntax::Command>, Memory>
+    ensures { IfOk result (λ cs. map sh.view_command cs ≡ map command_lowered stages.now) }
 {
     let mut lowered = List::new(alloc);
     for stage in stages {
@@ -265,14 +283,14 @@ fn lower_stages(
     Ok(lowered)
 }
 
-#[tactic(auto, using(crate::proofs::Trees::stages_lowered))]
+#[tactic(auto, using(crate::proofs::ShNodes::pipeline_rolled, crate::proofs::Trees::stages_lowered))]
 fn lower_pipeline(
     alloc: Global,
     pipeline: &bash_tree::Pipeline,
-) -> Result<sh_tree::Pipeline, Memory>
+) -> Result<sh_syntax::Pipeline, Memory>
     ensures { IfOk result (λ p. sh.view_pipeline p ≡ to_sh.lower_pipeline (bash.view_pipeline pipeline.now)) }
 {
-    Ok(sh_tree::Pipeline {
+    Ok(sh_syntax::Pipeline {
         negated: pipeline.negated,
         stages: lower_stages(alloc, pipeline.stages.as_slice())?,
     })
@@ -280,19 +298,19 @@ fn lower_pipeline(
 
 // ---- lists of commands
 
-fn lower_joint(joint: bash_tree::Joint) -> sh_tree::Joint
+fn lower_joint(joint: bash_tree::Joint) -> sh_syntax::Joint
     ensures { result ≡ joint_lowered joint }
 {
     match joint {
-        bash_tree::Joint::And => sh_tree::Joint::And,
-        bash_tree::Joint::Or => sh_tree::Joint::Or,
+        bash_tree::Joint::And => sh_syntax::Joint::And,
+        bash_tree::Joint::Or => sh_syntax::Joint::Or,
     }
 }
 
 fn lower_link(
     alloc: Global,
     link: &(bash_tree::Joint, bash_tree::Pipeline),
-) -> Result<(sh_tree::Joint, sh_tree::Pipeline), Memory>
+) -> Result<(sh_syntax::Joint, sh_syntax::Pipeline), Memory>
     ensures { IfOk result (λ l. link_seen l ≡ link_lowered link.now) }
 {
     let pipeline = lower_pipeline(alloc, &link.1)?;
@@ -302,7 +320,7 @@ fn lower_link(
 fn lower_links(
     alloc: Global,
     links: &[(bash_tree::Joint, bash_tree::Pipeline)],
-) -> Result<List<(sh_tree::Joint, sh_tree::Pipeline)>, Memory>
+) -> Result<List<(sh_syntax::Joint, sh_syntax::Pipeline)>, Memory>
     ensures { IfOk result (λ ls. map link_seen ls ≡ map link_lowered links.now) }
 {
     let mut lowered = List::new(alloc);
@@ -312,26 +330,27 @@ fn lower_links(
     Ok(lowered)
 }
 
-#[tactic(auto, using(crate::proofs::Trees::links_lowered))]
-fn lower_chain(alloc: Global, chain: &bash_tree::AndOr) -> Result<sh_tree::AndOr, Memory>
+#[tactic(auto, using(crate::proofs::ShNodes::chain_rolled, crate::proofs::Trees::links_lowered))]
+fn lower_chain(alloc: Global, chain: &bash_tree::AndOr) -> Result<sh_syntax::AndOr, Memory>
     ensures { IfOk result (λ c. sh.view_chain c ≡ to_sh.lower_chain (bash.view_chain chain.now)) }
 {
-    Ok(sh_tree::AndOr {
+    Ok(sh_syntax::AndOr {
         first: lower_pipeline(alloc, &chain.first)?,
         rest: lower_links(alloc, chain.rest.as_slice())?,
     })
 }
 
-fn lower_item(alloc: Global, item: &bash_tree::Item) -> Result<sh_tree::Item, Memory>
-    ensures { IfOk result (λ i. item_seen i ≡ item_lowered item.now) }
+#[tactic(auto, using(crate::proofs::ShNodes::item_rolled))]
+fn lower_item(alloc: Global, item: &bash_tree::Item) -> Result<sh_syntax::Item, Memory>
+    ensures { IfOk result (λ i. sh.view_item i ≡ item_lowered item.now) }
 {
-    Ok(sh_tree::Item {
+    Ok(sh_syntax::Item {
         chain: lower_chain(alloc, &item.chain)?,
     })
 }
 
-fn lower_items(alloc: Global, items: &[bash_tree::Item]) -> Result<List<sh_tree::Item>, Memory>
-    ensures { IfOk result (λ is. map item_seen is ≡ map item_lowered items.now) }
+fn lower_items(alloc: Global, items: &[bash_tree::Item]) -> Result<List<sh_syntax::Item>, Memory>
+    ensures { IfOk result (λ is. map sh.view_item is ≡ map item_lowered items.now) }
 {
     let mut lowered = List::new(alloc);
     for item in items {
@@ -341,11 +360,11 @@ fn lower_items(alloc: Global, items: &[bash_tree::Item]) -> Result<List<sh_tree:
 }
 
 /// The script in sh: each command as the same command, and `name+=value` as `name="$name"value`.
-#[tactic(auto, using(crate::proofs::Trees::items_lowered))]
-pub fn lower(alloc: Global, script: &bash_tree::Script) -> Result<sh_tree::Script, Memory>
+#[tactic(auto, using(crate::proofs::ShNodes::script_rolled, crate::proofs::Trees::items_lowered))]
+pub fn lower(alloc: Global, script: &bash_tree::Script) -> Result<sh_syntax::Script, Memory>
     ensures { IfOk result (λ s. sh.view s ≡ to_sh.lower (bash.view script.now)) }
 {
-    Ok(sh_tree::Script {
+    Ok(sh_syntax::Script {
         items: lower_items(alloc, script.items.as_slice())?,
     })
 }

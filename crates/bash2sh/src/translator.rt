@@ -1,5 +1,7 @@
 //! From the text of a Bash script to the text of an sh script.
 
+ghost use Rattle.std.specs.Prelude.{◌≤◌, length};
+ghost use Rattle.bash2sh.specs.Answers.{limit};
 ghost use Rattle.bash2sh.specs.Translation.{Translates};
 
 use crate::fault::{ReadFault, TranslateFault};
@@ -13,6 +15,7 @@ use std::alloc::Global;
 ///
 /// `NotYet` where the text spells no script of the form that is taken, and `Output` where `out` failed.
 pub fn translate<K: Sink>(alloc: Global, text: &[u8], out: &mut K) -> Result<(), TranslateFault>
+    requires { length text.now ≤ limit }
     ensures { Translates text.now (K.held out.old) (K.held out.new) (K.faults out.old) (K.faults out.new) result }
 {
     let written = match text_of(alloc, text) {

@@ -1,4 +1,3 @@
-pub mod Bounds
 pub mod Grown
 pub mod Larger
 pub mod Simples

@@ -4,7 +4,6 @@ pub mod Examples
 pub mod Expanded
 pub mod Expanding
 pub mod Lists
-pub mod Meaning
 pub mod Modes
 pub mod Own
 pub mod Parameters

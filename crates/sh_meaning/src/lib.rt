@@ -1,12 +1,9 @@
 //! What sh text does.
 //!
-//! `specs/Meaning`, over the variables of `specs/Variables`, is the small part that the program uses so far; its law is
-//! in `proofs/Bounds`.
-//!
-//! All of sh stands beside it. Read `specs/Own` (a shell environment), `Modes` and `Expanded` (a word while it is
-//! expanded), `Parameters`, `Arithmetic`, `Pathnames`, `Lists`, then the steps: `Expanding` (words), `Redirecting`,
-//! `Simple` (simple commands, over the built-ins of `specs/builtins`, of which read `Run` first), and `Commands`, which
-//! walks over the tree. `Running` has whole runs, `Examples` some of them, and `laws` what holds of all.
+//! Read `specs/Own` (a shell environment, over `Variables`), `Modes` and `Expanded` (a word while it is expanded),
+//! `Parameters`, `Arithmetic`, `Pathnames`, `Lists`, then the steps: `Expanding` (words), `Redirecting`, `Simple` (simple
+//! commands, over the built-ins of `specs/builtins`, of which read `Run` first), and `Commands`, which walks over the
+//! tree. `Running` has whole runs, `Examples` some of them, and `laws` what holds of all.
 //!
 //! The only code is the types of a variable and of a built-in, which the definitions and an interpreter share.
 #![tactic(auto)]

@@ -1,6 +1,6 @@
 use Rattle.std.proofs.Common.{◌≡◌, take}
 use Rattle.std.specs.Prelude.{map}
-use Rattle.sh_tree.specs.View.{view_word}
+use Rattle.sh_syntax.specs.View.{view_word}
 use Rattle.bash2sh.specs.Trees.{word_lowered}
 use Rattle.bash2sh.proofs.lowering.lower_words.Given as goal
 

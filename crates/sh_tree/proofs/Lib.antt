@@ -1,4 +1,0 @@
-pub mod Back
-pub mod Fits
-pub mod Texts
-pub mod Views

@@ -1,8 +1,0 @@
-use Rattle.std.proofs.Common.{take}
-use Rattle.std.specs.List.{flat_map}
-use Rattle.span_text.proofs.Writes.{Printed}
-use Rattle.sh_tree.specs.Texts.{text_of_assign}
-use Rattle.sh_tree.proofs.printer.print_assigns.Given as goal
-
-abbrev pub invariant-loop-assign : goal.invariant-loop-assign
-invariant-loop-assign g l = Printed (g.K.Sink.held l.initial.out) (g.K.Sink.held l.out) (g.K.Sink.faults l.initial.out) (g.K.Sink.faults l.out) (flat_map text_of_assign (take l.assign-index l.assigns))
