@@ -96,7 +96,7 @@ assigned_alike name t a b append u is ag =
       own = record {
         inner = ap (λ (v : bash_vars.Scopes). v.inner) e;
         vars = ap (λ (x : Text). sh_vars.assign name x b.own.vars) is ∙ ap (sh_vars.assign name new) al.vars ∙ assigned_same name new a.own.scopes.bottom
-          ∙ ap (λ (v : bash_vars.Scopes). flattened v.bottom) (sym e);
+            ∙ ap (λ (v : bash_vars.Scopes). flattened v.bottom) (sym e);
         params = al.params;
         functions = al.functions;
         status = refl;

@@ -132,5 +132,10 @@ module _ (z : Setting) (call : Calls) (place : Place) where
       → command_run z call place (lower_command (simple no_assign (word w ws))) n s ≡ Ends Normal (called_state z.world (all_bytes (get_in s.own) (word w ws)) s) n
   call_runs w ws e f g literal known n s k none =
       let y = both (word_spelled w) (words_spelled ws) g in
-      rw (name_run z call w e y.0 no_fields n s, no_literal_export w literal known, arguments_run z call ws f y.1 (record { fields = word_items (get_in s.own) w ∷ []; ran = false }) n s,
-        texts_are (names_of s.outside.files) (get_in s.own) (word w ws) g, is_external (word_bytes (get_in s.own) w) s.own k none) refl
+      rw (
+        name_run z call w e y.0 no_fields n s,
+        no_literal_export w literal known,
+        arguments_run z call ws f y.1 (record { fields = word_items (get_in s.own) w ∷ []; ran = false }) n s,
+        texts_are (names_of s.outside.files) (get_in s.own) (word w ws) g,
+        is_external (word_bytes (get_in s.own) w) s.own k none,
+      ) refl

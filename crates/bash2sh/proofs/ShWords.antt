@@ -167,4 +167,3 @@ module _ (z : Setting) (call : Calls) where
       rw (argument_run w y.0 k.0 done n s)
       (arguments_run ws y.1 k.1 (one_more done (word_items (get_in s.own) w)) n s
       ∙ ap (λ (l : List (List Item)). Ends (record { fields = l; ran = done.ran }) s n) (append_assoc done.fields (word_items (get_in s.own) w ∷ []) (all_items (get_in s.own) ws)))
-

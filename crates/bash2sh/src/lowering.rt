@@ -180,7 +180,10 @@ fn push_value(
     }
 }
 
-fn appended_parts(alloc: Global, assign: &bash_tree::Assign) -> Result<List<sh_syntax::Part>, Memory>
+fn appended_parts(
+    alloc: Global,
+    assign: &bash_tree::Assign,
+) -> Result<List<sh_syntax::Part>, Memory>
     ensures { IfOk result (λ ps. map sh.view_part ps ≡ to_sh.quoted_name assign.now.name.text ∷ value_parts_lowered assign.now.value) }
 {
     let mut parts = List::new(alloc);
@@ -191,7 +194,10 @@ fn appended_parts(alloc: Global, assign: &bash_tree::Assign) -> Result<List<sh_s
 
 /// `"$name"` with the value behind it.
 #[tactic(auto, using(crate::proofs::ShNodes::value_seen, crate::proofs::Trees::appended_lowered))]
-fn lower_appended(alloc: Global, assign: &bash_tree::Assign) -> Result<sh_syntax::AssignValue, Memory>
+fn lower_appended(
+    alloc: Global,
+    assign: &bash_tree::Assign,
+) -> Result<sh_syntax::AssignValue, Memory>
     ensures { IfOk result (λ v. sh.view_value v ≡ to_sh.lower_value true assign.now.name.text (bash.view_value assign.now.value)) }
 {
     let parts = appended_parts(alloc, assign)?;
@@ -260,10 +266,7 @@ fn command(alloc: Global, kind: sh_syntax::CommandKind, span: Span) -> sh_syntax
     }
 }
 
-fn lower_command(
-    alloc: Global,
-    from: &bash_tree::Command,
-) -> Result<sh_syntax::Command, Memory>
+fn lower_command(alloc: Global, from: &bash_tree::Command) -> Result<sh_syntax::Command, Memory>
     ensures { IfOk result (λ c. sh.view_command c ≡ command_lowered from.now) }
 {
     let kind = lower_simple(alloc, &from.kind)?;
