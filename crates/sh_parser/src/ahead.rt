@@ -20,6 +20,7 @@ use crate::tokens::{Op, is_token, token};
 
 /// Whether this comes next.
 #[tactic(auto, unfolding(sh_grammar::specs::Steps::holds))]
+#[inline(always)]
 pub fn holds(test: Test, bytes: &[u8]) -> bool
     ensures { result ≡ steps.holds (tables.test test) (start_at 0 bytes.now) }
 {
@@ -44,6 +45,7 @@ pub fn holds(test: Test, bytes: &[u8]) -> bool
 }
 
 /// `(` or a word other than `esac`.
+#[inline(always)]
 fn item_begins(bytes: &[u8]) -> bool
     ensures { result ≡ (tokens.is_token tokens.Open bytes.now || (tokens.is_token tokens.Word bytes.now && not (tokens.is_key tokens.Esac bytes.now))) }
 {
@@ -51,6 +53,7 @@ fn item_begins(bytes: &[u8]) -> bool
 }
 
 #[tactic(auto, unfolding(sh_grammar::specs::Steps::holds))]
+#[inline(always)]
 fn redirect_holds(test: RedirectTest, bytes: &[u8]) -> bool
     ensures { result ≡ steps.holds (tables.redirect_test test) (start_at 0 bytes.now) }
 {
@@ -62,6 +65,7 @@ fn redirect_holds(test: RedirectTest, bytes: &[u8]) -> bool
 }
 
 #[tactic(auto, unfolding(sh_grammar::specs::Steps::holds))]
+#[inline(always)]
 fn word_holds(test: WordTest, bytes: &[u8]) -> bool
     ensures { result ≡ steps.holds (tables.word_test test) (start_at 0 bytes.now) }
 {
@@ -75,6 +79,7 @@ fn word_holds(test: WordTest, bytes: &[u8]) -> bool
 }
 
 #[tactic(auto, unfolding(sh_grammar::specs::Steps::holds))]
+#[inline(always)]
 fn dollar_holds(test: DollarTest, bytes: &[u8]) -> bool
     ensures { result ≡ steps.holds (tables.dollar_test test) (start_at 0 bytes.now) }
 {

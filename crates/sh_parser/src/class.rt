@@ -24,12 +24,14 @@ pub enum Context {
     BodyPattern,
 }
 
+#[inline(always)]
 pub fn is_blank(b: u8) -> bool
     ensures { result ≡ bytes_of.is_blank b }
 {
     b == b' ' || b == b'\t'
 }
 
+#[inline(always)]
 pub fn is_digit(b: u8) -> bool
     ensures { result ≡ names.is_digit b }
 {
@@ -37,6 +39,7 @@ pub fn is_digit(b: u8) -> bool
 }
 
 #[tactic(auto, unfolding(span_text::specs::Names::begins_name))]
+#[inline(always)]
 pub fn begins_name(b: u8) -> bool
     ensures { result ≡ names.begins_name b }
 {
@@ -44,6 +47,7 @@ pub fn begins_name(b: u8) -> bool
 }
 
 #[tactic(auto, unfolding(span_text::specs::Names::continues_name))]
+#[inline(always)]
 pub fn continues_name(b: u8) -> bool
     ensures { result ≡ names.continues_name b }
 {
@@ -51,6 +55,7 @@ pub fn continues_name(b: u8) -> bool
 }
 
 #[tactic(auto, unfolding(sh_grammar::specs::Bytes::is_special_param))]
+#[inline(always)]
 pub fn is_special_param(b: u8) -> bool
     ensures { result ≡ bytes_of.is_special_param b }
 {
@@ -58,6 +63,7 @@ pub fn is_special_param(b: u8) -> bool
 }
 
 #[tactic(auto, unfolding(sh_grammar::specs::Bytes::expands))]
+#[inline(always)]
 pub fn expands(b: u8) -> bool
     ensures { result ≡ bytes_of.expands b }
 {
@@ -73,6 +79,7 @@ pub fn expands(b: u8) -> bool
 }
 
 #[tactic(auto, unfolding(sh_grammar::specs::Bytes::is_meta))]
+#[inline(always)]
 pub fn is_meta(b: u8) -> bool
     ensures { result ≡ bytes_of.is_meta b }
 {
@@ -88,6 +95,7 @@ pub fn is_meta(b: u8) -> bool
 }
 
 #[tactic(auto, unfolding(sh_grammar::specs::Bytes::is_active))]
+#[inline(always)]
 pub fn is_active(b: u8) -> bool
     ensures { result ≡ bytes_of.is_active b }
 {
@@ -96,6 +104,7 @@ pub fn is_active(b: u8) -> bool
 
 /// Whether the byte stands for itself there.
 #[tactic(auto, unfolding(sh_grammar::specs::Bytes::is_plain))]
+#[inline(always)]
 pub fn is_plain(place: Context, b: u8) -> bool
     ensures { result ≡ bytes_of.is_plain (context place) b }
 {
@@ -112,6 +121,7 @@ pub fn is_plain(place: Context, b: u8) -> bool
 
 /// Whether a backslash quotes the byte there.
 #[tactic(auto, unfolding(sh_grammar::specs::Bytes::is_escaped))]
+#[inline(always)]
 pub fn is_escaped(place: Context, b: u8) -> bool
     ensures { result ≡ bytes_of.is_escaped (context place) b }
 {
@@ -128,6 +138,7 @@ pub fn is_escaped(place: Context, b: u8) -> bool
 
 /// Whether `'..'` quotes there.
 #[tactic(auto, unfolding(sh_grammar::specs::Bytes::has_single))]
+#[inline(always)]
 pub fn has_single(place: Context) -> bool
     ensures { result ≡ bytes_of.has_single (context place) }
 {
@@ -144,6 +155,7 @@ pub fn has_single(place: Context) -> bool
 
 /// Whether `".."` quotes there.
 #[tactic(auto, unfolding(sh_grammar::specs::Bytes::has_double))]
+#[inline(always)]
 pub fn has_double(place: Context) -> bool
     ensures { result ≡ bytes_of.has_double (context place) }
 {
@@ -191,6 +203,7 @@ pub fn trim_context(place: Context) -> Context
 }
 
 #[tactic(auto, unfolding(sh_grammar::specs::Bytes::begins_unit))]
+#[inline(always)]
 fn begins_unit(place: Context, b: u8) -> bool
     ensures { result ≡ bytes_of.begins_unit (context place) b }
 {
@@ -203,6 +216,7 @@ fn begins_unit(place: Context, b: u8) -> bool
 
 /// Whether a part of a word begins here, or what is no part and isn't read.
 #[tactic(auto, unfolding(sh_grammar::specs::Bytes::unit_starts))]
+#[inline(always)]
 pub fn unit_starts(place: Context, bytes: &[u8]) -> bool
     ensures { result ≡ bytes_of.unit_starts (context place) bytes.now }
 {

@@ -25,6 +25,7 @@ pub enum Run {
 }
 
 /// Whether the `$` before these bytes stands for itself.
+#[inline(always)]
 pub fn is_bare_dollar(bytes: &[u8]) -> bool
     ensures { result ≡ bytes_of.is_bare_dollar bytes.now }
 {
@@ -34,6 +35,7 @@ pub fn is_bare_dollar(bytes: &[u8]) -> bool
     }
 }
 
+#[inline(always)]
 fn is_bare_backslash(place: Context, bytes: &[u8]) -> bool
     ensures { result ≡ bytes_of.is_bare_backslash (context place) bytes.now }
 {
@@ -44,6 +46,7 @@ fn is_bare_backslash(place: Context, bytes: &[u8]) -> bool
 }
 
 #[tactic(auto, unfolding(sh_grammar::specs::Bytes::is_literal))]
+#[inline(always)]
 fn is_literal(place: Context, b: u8, after: &[u8]) -> bool
     ensures { result ≡ bytes_of.is_literal (context place) b after.now }
 {
@@ -52,6 +55,7 @@ fn is_literal(place: Context, b: u8, after: &[u8]) -> bool
         || (b == b'\\' && is_bare_backslash(place, after))
 }
 
+#[inline(always)]
 fn goes_on(run: Run, b: u8, after: &[u8]) -> bool
     ensures { result ≡ kinds.goes_on run b after.now }
 {

@@ -179,6 +179,7 @@ fn is_alone(b: u8, after: &[u8]) -> bool
 }
 
 #[tactic(auto, unfolding(sh_grammar::specs::Bytes::digit_run))]
+#[inline(always)]
 fn word_at(bytes: &[u8]) -> (Op, &[u8])
     ensures { (op result.0, result.1.now) ≡ tokens.word_at bytes.now }
 {
@@ -201,6 +202,7 @@ fn word_at(bytes: &[u8]) -> (Op, &[u8])
     }
 }
 
+#[inline(always)]
 fn word_or_none(bytes: &[u8]) -> (Op, &[u8])
     ensures { (op result.0, result.1.now) ≡ (if bytes_of.unit_starts in_word bytes.now then tokens.word_at bytes.now else (other, bytes.now)) }
 {
@@ -212,6 +214,7 @@ fn word_or_none(bytes: &[u8]) -> (Op, &[u8])
 }
 
 #[tactic(auto, unfolding(sh_grammar::specs::Tokens::front))]
+#[inline(always)]
 fn front(bytes: &[u8]) -> (Op, &[u8])
     ensures { (op result.0, result.1.now) ≡ tokens.front bytes.now }
 {
@@ -238,6 +241,7 @@ pub fn token(bytes: &[u8]) -> (Op, &[u8])
 }
 
 #[tactic(auto, unfolding(sh_grammar::specs::Tokens::code))]
+#[inline(always)]
 fn code(token: Op) -> u8
     ensures { result ≡ tokens.code (op token) }
 {
@@ -266,6 +270,7 @@ fn code(token: Op) -> u8
 
 /// Whether a redirection begins with this token.
 #[tactic(auto, unfolding(sh_grammar::specs::Tokens::code))]
+#[inline(always)]
 pub fn begins_redirect(token: Op) -> bool
     ensures { result ≡ redirect_op (op token) }
 {
@@ -279,6 +284,7 @@ pub fn begins_redirect(token: Op) -> bool
 
 /// Whether this token comes next.
 #[tactic(auto, unfolding(sh_grammar::specs::Tokens::is_token))]
+#[inline(always)]
 pub fn is_token(wanted: Op, bytes: &[u8]) -> bool
     ensures { result ≡ tokens.is_token (op wanted) bytes.now }
 {
