@@ -1,5 +1,5 @@
 -- Words and commands of the forms that are taken, as Bash runs them: each ends at once.
-use Rattle.std.proofs.Common.{◌≡◌, ℕ, Bool, true, false, ◌&&◌, not, ◌||◌, List, [], ◌∷◌, ◌++◌, refl, ap, ◌∙◌}
+use Rattle.std.proofs.Common.{◌≡◌, ℕ, Bool, true, false, List, [], refl}
 use Rattle.span_text.specs.KnownNames.{is_known_command}
 use Rattle.shell_world.specs.declared.world.World.{World}
 use Rattle.shell_world.specs.Texts.{Text}
@@ -7,8 +7,8 @@ use Rattle.shell_world.specs.Calls.{Called, called}
 use Rattle.shell_world.specs.Runs.{Normal, Try, Value, St, Ends, Do, Calls, with_own}
 use Rattle.bash_tree.specs.Shape.{Part, plain, exact, double, param, Parts, no_part, part, Words, no_word, word, Value as AssignedValue, no_value, value, no_assign, assign, Command, simple}
 use Rattle.bash_meaning.specs.Variables.{text_of, environment}
-use Rattle.bash_meaning.specs.Meaning.{Own, quoted_part, word_part, word_text, joined, fields, value_text, assigned, with_status, external, command_run}
-use Rattle.bash2sh.specs.Form.{is_free_name, parts_form, quoted_form, part_form, word_form, words_form, value_form, is_literal, is_literal_part, is_plain, plain_text, literal_part_text, literal_text, texts_of}
+use Rattle.bash_meaning.specs.Meaning.{Own, quoted_part, word_part, word_text, joined, fields, value_text, assigned, with_status, command_run}
+use Rattle.bash2sh.specs.Form.{parts_form, quoted_form, part_form, word_form, words_form, value_form, is_literal, is_literal_part, is_plain, plain_text, literal_part_text, literal_text, texts_of}
 use Rattle.bash2sh.proofs.Tools.{both}
 use Rattle.bash2sh.proofs.ShItems.{quoted_bytes, part_bytes, word_bytes}
 use Rattle.bash2sh.proofs.ShWords.{all_bytes}

@@ -1,7 +1,7 @@
 -- Tests and texts over the parts of the code's words.
-use Rattle.std.proofs.Common.{◌≡◌, Bool, ◌&&◌, ◌||◌, true, false, List, [], ◌∷◌, ◌++◌, refl, sym, ap, ◌∙◌, ℕ, suc, ◌≤◌, ◌<◌, length, get_or, drop, eqb, arith}
+use Rattle.std.proofs.Common.{◌≡◌, Bool, ◌&&◌, true, false, List, [], ◌∷◌, ◌++◌, refl, sym, ap, ◌∙◌, ℕ, suc, ◌≤◌, ◌<◌, length, get_or, drop, eqb, arith}
 use Rattle.std.specs.Prelude.{map}
-use Rattle.std.specs.List.{list_all, list_any, flat_map}
+use Rattle.std.specs.List.{list_all, flat_map}
 use Rattle.std.proofs.lemmas.List.Concat.{flat_map-cons}
 use Rattle.std.proofs.lemmas.Bool.Decides.{nat_tests}
 use Rattle.bash_tree.specs.declared.tree.Part.{Part}

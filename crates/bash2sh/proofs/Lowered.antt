@@ -1,15 +1,15 @@
 -- Each command and what it is lowered to do the same, from states that agree.
-use Rattle.std.proofs.Common.{◌≡◌, ℕ, Bool, true, false, not, ◌&&◌, ◌||◌, List, [], ◌∷◌, ◌++◌, refl, sym, ap, ◌∙◌}
+use Rattle.std.proofs.Common.{◌≡◌, ℕ, Bool, true, false, ◌&&◌, List, [], ◌++◌, refl, sym, ap, ◌∙◌}
 use Rattle.span_text.specs.Names.{is_name, is_reserved}
 use Rattle.span_text.specs.KnownNames.{is_known_command}
 use Rattle.shell_world.specs.declared.world.World.{World}
 use Rattle.shell_world.specs.Texts.{Text}
-use Rattle.shell_world.specs.Calls.{Called, called}
+use Rattle.shell_world.specs.Calls.{Called}
 use Rattle.shell_world.specs.Runs.{Signal, St, Ends, Do, Calls}
 use Rattle.shell_world.specs.Runs as bash_ends
 use Rattle.shell_runs.specs.Flow.{Flow}
 use Rattle.shell_runs.specs.Flow as sh_ends
-use Rattle.bash_tree.specs.Shape.{Part, plain, exact, double, param, Parts, no_part, part, Words, no_word, word, Value, no_value, value, no_assign, assign, Command, simple, no_stage, stage, pipeline, no_link, and_link, or_link, Chain, chain, Script, no_item, item, background_item}
+use Rattle.bash_tree.specs.Shape.{Part, plain, exact, double, param, Parts, no_part, part, Words, no_word, word, Value, no_assign, assign, Command, simple, no_stage, stage, pipeline, no_link, and_link, or_link, Chain, chain, Script, no_item, item, background_item}
 use Rattle.bash_meaning.specs.Variables as bash_vars
 use Rattle.bash_meaning.specs.Meaning as bash
 use Rattle.sh_meaning.specs.Variables as sh_vars
@@ -18,10 +18,10 @@ use Rattle.sh_meaning.specs.Simple.{Setting}
 use Rattle.sh_meaning.specs.Simple as sh_simple
 use Rattle.sh_meaning.specs.Commands as sh
 use Rattle.sh_meaning.specs.builtins.Places.{Place}
-use Rattle.bash2sh.specs.Form.{is_free_name, is_literal, is_literal_part, is_plain, literal_text, is_free_command, parts_form, quoted_form, part_form, name_form, word_form, words_form, value_form, command_form}
+use Rattle.bash2sh.specs.Form.{is_free_name, is_literal, is_literal_part, is_plain, literal_text, is_free_command, parts_form, quoted_form, part_form, name_form, word_form, words_form, value_form}
 use Rattle.bash2sh.specs.Lower.{lower_command, lower_chain, lower}
 use Rattle.bash2sh.proofs.Tools.{both, neither}
-use Rattle.bash2sh.proofs.Spelled.{words_spelled, value_spelled, command_spelled, command_taken, chain_taken, script_taken}
+use Rattle.bash2sh.proofs.Spelled.{words_spelled, value_spelled, command_taken, chain_taken, script_taken}
 use Rattle.bash2sh.proofs.Variables.{flattened, text_same, assigned_same, environment_same}
 use Rattle.bash2sh.proofs.ShItems.{word_bytes}
 use Rattle.bash2sh.proofs.ShWords.{get_in, all_bytes}

@@ -1,13 +1,11 @@
 -- What a script of this form is lowered to has the same meaning.
 use Rattle.std.proofs.Common.{◌≡◌, ℕ, true, refl, sym, ap, ◌∙◌, codes}
 use Rattle.shell_world.specs.declared.world.World.{World}
-use Rattle.shell_world.specs.Texts.{Text, Map}
 use Rattle.shell_world.specs.Outside.{Trace}
 use Rattle.shell_world.specs.Runs.{St}
 use Rattle.shell_world.specs.World.{start_ifs}
 use Rattle.shell_world.specs.declared.world.End.TheVariants as end
 use Rattle.shell_world.specs.Ends.{Outcome, Ended, Going, Unknown, outcome}
-use Rattle.shell_world.specs.Reports.{report}
 use Rattle.shell_runs.specs.Ends as sh_ends
 use Rattle.bash_tree.specs.Shape.{Script}
 use Rattle.bash_meaning.specs.Meaning as bash

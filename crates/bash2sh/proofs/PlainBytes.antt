@@ -1,6 +1,6 @@
 -- Bytes that stand for themselves: no tilde, no pattern, and nothing that sh reads in another way.
-use Rattle.std.proofs.Common.{◌≡◌, ℕ, Bool, true, false, not, ◌&&◌, ◌||◌, ◌==◌, List, [], ◌∷◌, refl, if◌then◌else◌}
-use Rattle.std.specs.List.{list_all, list_any}
+use Rattle.std.proofs.Common.{◌≡◌, ℕ, Bool, true, false, ◌&&◌, ◌||◌, ◌==◌, List, [], ◌∷◌, refl, if◌then◌else◌}
+use Rattle.std.specs.List.{list_all}
 use Rattle.span_text.specs.Names.{begins_name, continues_name}
 use Rattle.span_text.specs.Scanning.{is_plain_byte, is_exact_byte, is_quoted_byte}
 use Rattle.span_text.proofs.Bytes.{apart}

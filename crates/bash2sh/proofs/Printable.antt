@@ -1,25 +1,23 @@
 -- What a script of the forms that are taken is lowered to can be printed as sh text.
-use Rattle.std.proofs.Common.{◌≡◌, ℕ, Bool, true, false, not, ◌&&◌, ◌||◌, ◌==◌, List, [], ◌∷◌, ◌++◌, refl, sym, ap, subst, ◌∙◌, append-nil, arith}
+use Rattle.std.proofs.Common.{◌≡◌, ℕ, Bool, true, false, not, ◌&&◌, ◌||◌, ◌==◌, List, [], ◌∷◌, ◌++◌, refl, subst, ◌∙◌, append-nil, arith}
 use Rattle.std.specs.Prelude.{codes}
-use Rattle.std.specs.List.{list_all, list_any}
+use Rattle.std.specs.List.{list_all}
 use Rattle.std.proofs.lemmas.Bool.Decides.{nat_tests}
-use Rattle.span_text.specs.Names.{is_name, is_reserved, continues_name}
+use Rattle.span_text.specs.Names.{is_name, is_reserved}
 use Rattle.span_text.specs.KnownNames.{same_text, is_among, standard_words, is_standard_word, is_builtin, is_refused_builtin, is_bash_word, is_restricted, is_known_command, other_commands}
 use Rattle.span_text.specs.Scanning.{is_plain_byte, is_exact_byte, is_quoted_byte}
-use Rattle.sh_grammar.specs.Shape as sh
-use Rattle.sh_grammar.specs.Bytes.{Context, in_word, in_double, has_double, has_single}
+use Rattle.sh_grammar.specs.Bytes.{in_word, in_double, has_double, has_single}
 use Rattle.sh_grammar.specs.Steps.{is_empty}
 use Rattle.sh_grammar.specs.Tokens.{key_text}
-use Rattle.sh_printing.specs.Marks.{is_quote}
 use Rattle.sh_printing.specs.Printing.{continued}
-use Rattle.sh_printing.specs.Spellable.{is_literal_text, ends_with, begins_with, is_reserved_text, is_reserved_word, begins_assign}
-use Rattle.sh_printing.specs.Printable.{first_is, is_plain_part, is_expansion, is_assignment, reads_tilde, parts_fit, word_fits, words_fit, value_fits, name_fits, command_fits, chain_fits, list_fits, script_printable}
-use Rattle.bash_tree.specs.Shape.{Part, plain, exact, double, param, Parts, no_part, part, Words, no_word, word, Value, no_value, value, no_assign, assign, Command, simple, no_stage, stage, pipeline, no_link, and_link, or_link, Chain, chain, Script, no_item, item, background_item}
-use Rattle.bash2sh.specs.Form.{is_free_name, is_literal, literal_text, is_free_command, name_form, words_form, value_form, command_form}
-use Rattle.bash2sh.specs.Lower.{lower_part, lower_parts, lower_words, lower_value, lower_command, lower_chain, lower}
+use Rattle.sh_printing.specs.Spellable.{begins_with, is_reserved_text, is_reserved_word}
+use Rattle.sh_printing.specs.Printable.{first_is, is_plain_part, is_assignment, parts_fit, word_fits, words_fit, value_fits, command_fits, chain_fits, script_printable}
+use Rattle.bash_tree.specs.Shape.{plain, exact, double, param, Parts, no_part, part, Words, no_word, word, Value, no_value, value, no_assign, assign, Command, simple, no_stage, stage, pipeline, no_link, and_link, or_link, Chain, chain, Script, no_item, item, background_item}
+use Rattle.bash2sh.specs.Form.{is_free_name, is_literal, literal_text, is_free_command, name_form, words_form, value_form}
+use Rattle.bash2sh.specs.Lower.{lower_parts, lower_words, lower_value, lower_command, lower_chain, lower}
 use Rattle.bash2sh.proofs.Tools.{and_no, both, neither, all_three, all_four}
 use Rattle.bash2sh.proofs.PlainBytes.{reads_no_tilde, plain_is_literal, quoted_is_literal, plain_ends_no_dollar, quoted_ends_no_dollar, plain_begins_no_comment, begins_no_assign, exact_is_no_quote, exact_bytes}
-use Rattle.bash2sh.proofs.Spelled.{is_something, has_part, begins_plain, goes_on_name, quoted_spelled, parts_spelled, word_spelled, words_spelled, value_spelled, command_spelled, command_taken, chain_taken, script_taken}
+use Rattle.bash2sh.proofs.Spelled.{is_something, has_part, begins_plain, goes_on_name, quoted_spelled, parts_spelled, word_spelled, words_spelled, value_spelled, command_taken, chain_taken, script_taken}
 use Rattle.bash2sh.proofs.ShNames.{Differs, differs, no_either}
 
 no_of : (b : Bool) → not b ≡ true → b ≡ false

@@ -1,7 +1,7 @@
 -- Commands of the forms that are taken, as sh runs them: each ends at once.
-use Rattle.std.proofs.Common.{◌≡◌, ℕ, Bool, true, false, not, ◌&&◌, ◌||◌, List, [], ◌∷◌, ◌++◌, Some, refl, sym, ap, ◌∙◌, append-nil}
+use Rattle.std.proofs.Common.{◌≡◌, ℕ, Bool, true, false, List, [], ◌∷◌, ◌++◌, refl, ap, ◌∙◌, append-nil}
 use Rattle.std.specs.Prelude.{codes}
-use Rattle.span_text.specs.Names.{is_name, is_reserved}
+use Rattle.span_text.specs.Names.{is_name}
 use Rattle.span_text.specs.KnownNames.{is_known_command, same_text}
 use Rattle.span_text.specs.declared.flagged.Item.{Item}
 use Rattle.field_split.specs.Reading.{bytes_of}
@@ -11,7 +11,6 @@ use Rattle.shell_world.specs.Paths.{names_of}
 use Rattle.shell_world.specs.Calls.{Called, called}
 use Rattle.shell_world.specs.Runs.{St, Ends, with_own}
 use Rattle.shell_runs.specs.Flow.{Normal}
-use Rattle.sh_grammar.specs.Shape as sh
 use Rattle.sh_meaning.specs.Variables.{environment}
 use Rattle.sh_meaning.specs.Own.{Own, with_status, assigned}
 use Rattle.sh_meaning.specs.Modes.{Single}
@@ -20,10 +19,10 @@ use Rattle.sh_meaning.specs.Simple.{Setting, Calls, literal_inside, literal_text
 use Rattle.sh_meaning.specs.Commands.{command_run, value_run}
 use Rattle.sh_meaning.specs.builtins.Literals.{is_literal}
 use Rattle.sh_meaning.specs.builtins.Places.{Place}
-use Rattle.bash_tree.specs.Shape.{Part, plain, exact, double, param, Parts, no_part, part, Words, no_word, word, Value, no_value, value, no_assign, assign, Command, simple}
+use Rattle.bash_tree.specs.Shape.{plain, exact, double, param, Parts, no_part, part, Words, no_word, word, Value, no_value, value, no_assign, assign, simple}
 use Rattle.bash2sh.specs.Form.{is_free_name, parts_form, quoted_form, part_form, word_form, words_form, value_form, is_plain, is_literal_part, plain_text, texts_of, is_free_command}
 use Rattle.bash2sh.specs.Form as form
-use Rattle.bash2sh.specs.Lower.{lower_parts, lower_words, plain_value, lower_value, lower_command}
+use Rattle.bash2sh.specs.Lower.{lower_parts, lower_value, lower_command}
 use Rattle.bash2sh.proofs.Tools.{and_no, both}
 use Rattle.bash2sh.proofs.Spelled.{parts_spelled, word_spelled, words_spelled, value_spelled}
 use Rattle.bash2sh.proofs.ShItems.{word_items, word_bytes, bytes_of_word, bytes_nothing}

@@ -1,7 +1,6 @@
 -- What the words of the forms that are taken expand to in sh: items that aren't split and are no patterns.
-use Rattle.std.proofs.Common.{◌≡◌, ℕ, suc, zero, Bool, true, false, not, ◌&&◌, ◌||◌, List, [], ◌∷◌, ◌++◌, length, take, drop, Option, Some, None, refl, sym, ap, ◌∙◌, append-nil, arith}
-use Rattle.std.specs.Prelude.{map}
-use Rattle.std.specs.List.{list_all, list_any, filter_map, prefix_len, take_while}
+use Rattle.std.proofs.Common.{◌≡◌, ℕ, suc, zero, Bool, true, false, not, ◌&&◌, ◌||◌, List, [], ◌∷◌, ◌++◌, length, take, drop, Some, refl, sym, ap, ◌∙◌, append-nil, arith}
+use Rattle.std.specs.List.{list_all, list_any, prefix_len}
 use Rattle.std.proofs.lemmas.List.Elements.{filter_map-append}
 use Rattle.std.proofs.lemmas.List.Folds.{list_all-append, list_any-append}
 use Rattle.span_text.specs.Scanning.{is_plain_byte, is_exact_byte}
@@ -9,8 +8,8 @@ use Rattle.span_text.specs.declared.flagged.Mark.{Mark}
 use Rattle.span_text.specs.declared.flagged.Mark.TheVariants.{Written, Quoted, Value}
 use Rattle.span_text.specs.declared.flagged.Item.{Item}
 use Rattle.span_text.specs.declared.flagged.Item.TheVariants.{Byte, Quote}
-use Rattle.field_split.specs.declared.sort.Sort.TheVariants.{Kept, White, Other}
-use Rattle.field_split.specs.Fields.{splits, is_of, after, after_one, field, fields, fields_in, behind}
+use Rattle.field_split.specs.declared.sort.Sort.TheVariants.{Kept, White}
+use Rattle.field_split.specs.Fields.{is_of, field, fields, fields_in, behind}
 use Rattle.field_split.specs.Reading.{byte_of, bytes_of}
 use Rattle.shell_world.specs.Texts.{Text}
 use Rattle.sh_meaning.specs.Expanded.{marked, quoted_items}
@@ -19,7 +18,7 @@ use Rattle.bash_tree.specs.Shape.{Part, plain, exact, double, param, Parts, no_p
 use Rattle.bash2sh.specs.Form.{texts_of}
 use Rattle.bash2sh.proofs.Tools.{both, all_four}
 use Rattle.bash2sh.proofs.PlainBytes.{no_special}
-use Rattle.bash2sh.proofs.Spelled.{is_something, has_part, begins_plain, quoted_spelled, parts_spelled, word_spelled}
+use Rattle.bash2sh.proofs.Spelled.{is_something, begins_plain, quoted_spelled, parts_spelled, word_spelled}
 
 -- ---- bytes
 

@@ -1,12 +1,11 @@
 -- A name that no shell knows is that of an external command in sh.
-use Rattle.std.proofs.Common.{◌≡◌, ℕ, Bool, true, false, not, ◌&&◌, ◌||◌, List, [], ◌∷◌, ◌++◌, Option, Some, None, refl, sym, ap, ◌∙◌}
+use Rattle.std.proofs.Common.{◌≡◌, Bool, true, false, ◌||◌, List, [], ◌∷◌, None, refl}
 use Rattle.std.specs.Prelude.{codes}
-use Rattle.std.specs.List.{list_all, list_any}
-use Rattle.span_text.specs.KnownNames.{same_text, is_among, builtins, is_builtin, is_refused_builtin, is_restricted, is_standard_word, is_known_command, standard_words}
+use Rattle.span_text.specs.KnownNames.{same_text, is_among, builtins, is_builtin, is_refused_builtin, is_restricted, is_known_command}
 use Rattle.shell_world.specs.Texts.{Text}
 use Rattle.sh_meaning.specs.Own.{Own}
 use Rattle.sh_meaning.specs.Simple.{found, External}
-use Rattle.sh_meaning.specs.builtins.Names.{special_builtin, plain_builtin, builtin_of, is_special, is_sh_builtin}
+use Rattle.sh_meaning.specs.builtins.Names.{special_builtin, plain_builtin, builtin_of}
 
 pub no_either : (a b : Bool) → (a || b) ≡ false → (a ≡ false) × (b ≡ false)
 no_either true b e = absurd cc

@@ -1,25 +1,25 @@
 -- Words of the forms that are taken, as sh expands them: each is one field, with the text that it has by the variables.
-use Rattle.std.proofs.Common.{◌≡◌, ℕ, Bool, true, false, not, ◌&&◌, ◌||◌, List, [], ◌∷◌, ◌++◌, Option, Some, None, refl, sym, ap, ◌∙◌, append-nil, append_assoc}
-use Rattle.span_text.specs.declared.flagged.Mark.TheVariants.{Written, Quoted, Value}
+use Rattle.std.proofs.Common.{◌≡◌, ℕ, Bool, true, false, not, List, [], ◌∷◌, ◌++◌, Option, Some, None, refl, sym, ap, ◌∙◌, append-nil, append_assoc}
+use Rattle.span_text.specs.declared.flagged.Mark.TheVariants.{Written, Quoted}
 use Rattle.span_text.specs.declared.flagged.Item.{Item}
-use Rattle.span_text.specs.declared.flagged.Item.TheVariants.{Byte, Quote}
-use Rattle.field_split.specs.Fields.{separators, fields}
+use Rattle.span_text.specs.declared.flagged.Item.TheVariants.{Quote}
+use Rattle.field_split.specs.Fields.{separators}
 use Rattle.shell_world.specs.Texts.{Text, lookup, text_or_none}
 use Rattle.shell_world.specs.Runs.{St, Ends}
 use Rattle.sh_grammar.specs.Shape.{named}
 use Rattle.sh_meaning.specs.declared.variable.Variable.{Variable}
-use Rattle.sh_meaning.specs.Variables.{text_of, text_of_variable, text_of_value}
+use Rattle.sh_meaning.specs.Variables.{text_of, text_of_value}
 use Rattle.sh_meaning.specs.Own.{Own}
-use Rattle.sh_meaning.specs.Parameters.{ifs, parameter_text, value_in}
-use Rattle.sh_meaning.specs.Modes.{Mode, Purpose, Fields, Bare, Double, purpose_in_quotes, in_fields}
+use Rattle.sh_meaning.specs.Parameters.{ifs, parameter_text}
+use Rattle.sh_meaning.specs.Modes.{Purpose, Fields, Bare, Double, purpose_in_quotes, in_fields}
 use Rattle.sh_meaning.specs.Expanded.{Expanded, nothing, marked, quoted_items}
 use Rattle.sh_meaning.specs.Expanding.{Where, First, Later, Fielded}
 use Rattle.sh_meaning.specs.Lists.{Seen, seen_in, seen_in_part, quote_seen, has_no_part, with_both, has_crowded_lists}
 use Rattle.sh_meaning.specs.Pathnames.{texts_among}
-use Rattle.sh_meaning.specs.Simple.{Setting, Calls, Role, Name, Argument, word_run}
+use Rattle.sh_meaning.specs.Simple.{Setting, Calls, Name, Argument, word_run}
 use Rattle.sh_meaning.specs.Commands.{parts_run, words_run}
-use Rattle.bash_tree.specs.Shape.{Part, plain, exact, double, param, Parts, no_part, part, Words, no_word, word}
-use Rattle.bash2sh.specs.Form.{is_free_name, parts_form, quoted_form, part_form, word_form, words_form}
+use Rattle.bash_tree.specs.Shape.{plain, exact, double, param, Parts, no_part, part, Words, no_word, word}
+use Rattle.bash2sh.specs.Form.{is_free_name, parts_form, quoted_form, word_form, words_form}
 use Rattle.bash2sh.specs.Lower.{lower_part, lower_parts, lower_words}
 use Rattle.bash2sh.proofs.Tools.{both, all_four}
 use Rattle.bash2sh.proofs.PlainBytes.{no_doubt}

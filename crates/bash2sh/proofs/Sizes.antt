@@ -1,15 +1,15 @@
 -- How long the sh text of a script is: at most four bytes for a byte of its Bash text.
-use Rattle.std.proofs.Common.{◌≡◌, ℕ, suc, ◌+◌, ◌*◌, ◌≤◌, ◌<◌, Bool, true, false, not, ◌&&◌, List, [], ◌∷◌, ◌++◌, length, refl, sym, ap, subst, ◌∙◌, inl, inr, arith, length-append, append-nil, if◌then◌else◌}
-use Rattle.span_text.specs.Names.{begins_name, continues_name, is_name}
-use Rattle.span_text.specs.Scanning.{Run, is_newline, is_blank, is_plain_byte, is_exact_byte, is_quoted_byte}
+use Rattle.std.proofs.Common.{◌≡◌, ℕ, ◌+◌, ◌*◌, ◌≤◌, Bool, true, false, List, [], ◌∷◌, ◌++◌, length, sym, ap, subst, inl, inr, arith, length-append, if◌then◌else◌}
+use Rattle.span_text.specs.Names.{continues_name}
+use Rattle.span_text.specs.Scanning.{is_blank, is_plain_byte, is_exact_byte, is_quoted_byte}
 use Rattle.span_text.proofs.Runs.{Run-length}
-use Rattle.sh_grammar.specs.Bytes.{Context, in_word, in_double, has_single}
+use Rattle.sh_grammar.specs.Bytes.{in_word, in_double, has_single}
 use Rattle.sh_printing.specs.Marks.{line, blank, exact_text, named_text, is_quote}
-use Rattle.sh_printing.specs.Printing.{continued, part_opens, behind_opening, parts_text, words_text, value_text, chain_text, script_text, printed}
-use Rattle.bash_tree.specs.Shape.{Part, plain, exact, double, param, Parts, no_part, part, Words, no_word, word, Value, no_value, value, no_assign, assign, Command, simple, Script, no_item, item, background_item, alone}
-use Rattle.bash2sh.specs.Form.{is_free_name, name_form, words_form, command_form}
-use Rattle.bash2sh.specs.Lower.{lower_part, lower_parts, lower_words, lower_value, parts_of_value, lower_chain, lower}
-use Rattle.bash2sh.specs.Spelling.{QuotedPartsAt, PartsAt, WordAt, WordsAt, ValueAt, sign, CommandAt, IsCommandLine, LinesAt, total}
+use Rattle.sh_printing.specs.Printing.{continued, part_opens, behind_opening, parts_text, words_text, value_text, chain_text, printed}
+use Rattle.bash_tree.specs.Shape.{plain, exact, double, param, Parts, no_part, part, Words, no_word, word, Value, no_value, value, no_assign, assign, Command, simple, Script, no_item, item, background_item, alone}
+use Rattle.bash2sh.specs.Form.{name_form, words_form, command_form}
+use Rattle.bash2sh.specs.Lower.{lower_part, lower_parts, lower_words, lower_value, lower_chain, lower}
+use Rattle.bash2sh.specs.Spelling.{QuotedPartsAt, PartsAt, WordsAt, ValueAt, sign, CommandAt, LinesAt, total}
 use Rattle.bash2sh.proofs.Tools.{both}
 use Rattle.bash2sh.proofs.Printable.{no_reserved}
 use Rattle.bash2sh.proofs.WordLaws.{word_shorter}

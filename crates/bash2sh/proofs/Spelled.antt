@@ -1,13 +1,13 @@
 -- Which trees a text of the forms that are taken spells: the bytes of each part are its own, and no two parts run into each other.
-use Rattle.std.proofs.Common.{◌≡◌, ℕ, Bool, true, false, not, ◌&&◌, ◌||◌, List, [], ◌∷◌, ◌++◌, refl, sym, ap, subst, ◌∙◌, inl, inr}
+use Rattle.std.proofs.Common.{◌≡◌, ℕ, Bool, true, false, not, ◌&&◌, List, [], ◌∷◌, ◌++◌, refl, sym, ap, subst, ◌∙◌, inl, inr}
 use Rattle.std.specs.List.{list_all, slice_split}
 use Rattle.span_text.specs.Names.{begins_name, continues_name, is_name}
-use Rattle.span_text.specs.Scanning.{starts, Each, Run, is_newline, is_plain_byte, is_exact_byte, is_quoted_byte, ends_word}
+use Rattle.span_text.specs.Scanning.{starts, Run, is_newline, is_plain_byte, is_exact_byte, is_quoted_byte, ends_word}
 use Rattle.span_text.proofs.Bytes.{first_is_name}
-use Rattle.bash_tree.specs.Shape.{Part, plain, exact, double, param, Parts, no_part, part, Words, no_word, word, Value, no_value, value, no_assign, assign, Command, simple, no_stage, stage, pipeline, no_link, and_link, or_link, Chain, chain, Script, no_item, item, background_item}
+use Rattle.bash_tree.specs.Shape.{plain, exact, double, param, Parts, no_part, part, Words, no_word, word, Value, no_value, value, no_assign, assign, Command, simple, no_stage, stage, pipeline, no_link, and_link, or_link, Chain, chain, Script, no_item, item, background_item}
 use Rattle.bash2sh.specs.Form.{command_form}
 use Rattle.bash2sh.specs.Spelling.{QuotedPartsAt, PartsAt, WordAt, WordsAt, ValueAt, sign, CommandAt, LinesAt, Reads}
-use Rattle.bash2sh.proofs.Tools.{both, test_of}
+use Rattle.bash2sh.proofs.Tools.{test_of}
 
 -- ---- the trees
 

@@ -2,7 +2,7 @@
 use Rattle.std.specs.Prelude.{ℕ, Bool, true, false, not, ◌&&◌, ◌||◌, List, [], ◌++◌}
 use Rattle.span_text.specs.Names.{is_reserved}
 use Rattle.span_text.specs.KnownNames.{is_known_command, is_special_name}
-use Rattle.bash_tree.specs.Shape.{Part, plain, exact, double, param, Parts, no_part, part, Words, no_word, word, Value, no_value, value, Assigns, no_assign, assign, Command, simple}
+use Rattle.bash_tree.specs.Shape.{Part, plain, exact, double, param, Parts, no_part, part, Words, no_word, word, Value, no_value, value, no_assign, assign, Command, simple}
 
 -- a variable that no shell sets by itself, and that isn't the translation's own
 abbrev pub is_free_name : List ℕ → Bool

@@ -2,7 +2,6 @@
 use Rattle.std.specs.Prelude.{◌≡◌, ℕ, List, codes}
 use Rattle.span_text.specs.Streams.{Rose, Grows, Falls}
 use Rattle.span_text.specs.Places.{line_of, column_of}
-use Rattle.shell_world.specs.declared.world.World.{World}
 use Rattle.shell_world.specs.declared.world.Report.{Report}
 use Rattle.shell_world.specs.declared.world.End.{End}
 use Rattle.shell_world.specs.declared.world.End.TheVariants as end
